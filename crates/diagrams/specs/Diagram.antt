@@ -1,0 +1,35 @@
+-- Trivalent diagrams (document 01, "Diagrams"). The black map f leads from each edge to the next one round its black vertex,
+-- the white map g to the next one round its white vertex.
+--
+--   Reached f g r x           there is a path from edge r to edge x by steps of f and g
+--   Maps n f g                f and g are maps of the edges 1..n; f thrice and g twice give every edge back
+--   Diagram n f g             a diagram of size n: such maps, and every edge is reached from edge 1
+--   Rooted s0 s1 root         the lists s0 (black) and s1 (white) are a diagram, and root is one of its edges
+use mathlib.Core.Path.{_≡_}
+use mathlib.Core.List.{List}
+use Prim.Native.Nat.{ℕ, _≤_}
+use lib.ListN.{length}
+use Rattle.lists.specs.Lists.{at}
+use Rattle.lists.specs.Ranges.{Edge}
+
+-- a path: none at all, or a path with one black or white step more
+pub data Reached (f g : ℕ → ℕ) (r : ℕ) : ℕ → Type 0 where
+  here : Reached f g r r
+  black : {x : ℕ} → Reached f g r x → Reached f g r (f x)
+  white : {x : ℕ} → Reached f g r x → Reached f g r (g x)
+
+pub record Maps (n : ℕ) (f g : ℕ → ℕ) : Type 0 where
+  pub some-edge : 1 ≤ n
+  pub black-in : (x : ℕ) → Edge n x → Edge n (f x)
+  pub white-in : (x : ℕ) → Edge n x → Edge n (g x)
+  pub thrice : (x : ℕ) → Edge n x → f (f (f x)) ≡ x
+  pub twice : (x : ℕ) → Edge n x → g (g x) ≡ x
+
+pub record Diagram (n : ℕ) (f g : ℕ → ℕ) : Type 0 where
+  pub maps : Maps n f g
+  pub connected : (x : ℕ) → Edge n x → Reached f g 1 x
+
+pub record Rooted (s0 s1 : List ℕ) (root : ℕ) : Type 0 where
+  pub lengths : length s1 ≡ length s0
+  pub root-in : Edge (length s0) root
+  pub diagram : Diagram (length s0) (at s0) (at s1)

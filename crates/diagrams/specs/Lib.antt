@@ -1,0 +1,3 @@
+pub mod Diagram
+pub mod Isomorphism
+pub mod Check

@@ -1,0 +1,5 @@
+// Trivalent diagrams: the type with its limits, and check.
+pub enum Verdict {
+    Accepted,
+    Refused(u16),
+}
