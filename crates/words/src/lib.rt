@@ -1,0 +1,1 @@
+// Words: what they spell, their order, their letters.
