@@ -24,7 +24,7 @@ pub record State (st s0 s1 : List ℕ) : Type 0 where
   pub fixed : (x : ℕ) → Has x st → at s1 x ≡ x
 
 -- what the finished diagram keeps of them
-pub record Kept (st s0 s1 : List ℕ) (D : Pair) : Type 0 where
+pub record Keeps (st s0 s1 : List ℕ) (D : Pair) : Type 0 where
   pub longer : length s0 ≤ length (D .black)
   pub level : length (D .white) ≡ length (D .black)
   pub blacks : (x : ℕ) → Edge (length s0) x → at (D .black) x ≡ at s0 x
@@ -99,11 +99,11 @@ module _ (k : ℕ) (r s0 s1 : List ℕ) (S : State (k ∷ r) s0 s1) where
       w x h = let i = S .within x (inr h) in omega arith
 
   module _ (D : Pair) where
-    kept-W : Kept r s0 s1 D → Kept (k ∷ r) s0 s1 D
-    kept-W K = record { longer = K .longer; level = K .level; blacks = K .blacks; whites = λ x e n. K .whites x e (λ h. n (inr h)) }
+    keeps-W : Keeps r s0 s1 D → Keeps (k ∷ r) s0 s1 D
+    keeps-W K = record { longer = K .longer; level = K .level; blacks = K .blacks; whites = λ x e n. K .whites x e (λ h. n (inr h)) }
 
-    kept-F : Kept (suc (suc c) ∷ suc c ∷ r) F0 F1 D → Kept (k ∷ r) s0 s1 D
-    kept-F K = record { longer = let i = rw length-3 at (K .longer) in omega arith; level = K .level; blacks = λ x e. K .blacks x (up x e) ∙ at-left s0 _ x (e .1); whites = λ x e n. K .whites x (up x e) (no x e n) ∙ old-white c x _ (e .1) (λ q. n (inl q)) }
+    keeps-F : Keeps (suc (suc c) ∷ suc c ∷ r) F0 F1 D → Keeps (k ∷ r) s0 s1 D
+    keeps-F K = record { longer = let i = rw length-3 at (K .longer) in omega arith; level = K .level; blacks = λ x e. K .blacks x (up x e) ∙ at-left s0 _ x (e .1); whites = λ x e n. K .whites x (up x e) (no x e n) ∙ old-white c x _ (e .1) (λ q. n (inl q)) }
       where
         up : (x : ℕ) → Edge (length s0) x → Edge (length F0) x
         up x e = rw length-3 (omega arith)
@@ -114,10 +114,10 @@ module _ (k : ℕ) (r s0 s1 : List ℕ) (S : State (k ∷ r) s0 s1) where
         no x e n (inr (inr h)) = n (inr h)
 
     -- what the finished diagram has at the edges that the item speaks of
-    pub W-k : Kept r s0 s1 D → at (D .white) k ≡ k
+    pub W-k : Keeps r s0 s1 D → at (D .white) k ≡ k
     W-k K = K .whites k k-in (S .apart .0) ∙ S .fixed k (inl refl)
 
-    module _ (K : Kept (suc (suc c) ∷ suc c ∷ r) F0 F1 D) where
+    module _ (K : Keeps (suc (suc c) ∷ suc c ∷ r) F0 F1 D) where
       F-edge : (x : ℕ) → 1 ≤ x → x ≤ suc (suc c) → Edge (length F0) x
       F-edge x l u = rw length-3 (l, u)
 
@@ -141,7 +141,7 @@ module _ (k : ℕ) (r s0 s1 : List ℕ) (S : State (k ∷ r) s0 s1) where
       pub F-ssc : at (D .black) (suc (suc c)) ≡ c
       F-ssc = K .blacks (suc (suc c)) (F-edge (suc (suc c)) (omega arith) (omega arith)) ∙ at-right s0 _ (suc (suc c)) 2 (omega arith)
 
-    module _ (K : Kept r B0 B1 D) where
+    module _ (K : Keeps r B0 B1 D) where
       B-edge : (x : ℕ) → 1 ≤ x → x ≤ c → Edge (length B0) x
       B-edge x l u = rw length-1 (l, u)
 
@@ -154,8 +154,8 @@ module _ (k : ℕ) (r s0 s1 : List ℕ) (S : State (k ∷ r) s0 s1) where
       pub B-c : at (D .black) c ≡ c
       B-c = K .blacks c (B-edge c (omega arith) (omega arith)) ∙ at-right s0 _ c 0 (omega arith)
 
-    kept-B : Kept r B0 B1 D → Kept (k ∷ r) s0 s1 D
-    kept-B K = record { longer = let i = rw length-1 at (K .longer) in omega arith; level = K .level; blacks = λ x e. K .blacks x (up x e) ∙ at-left s0 _ x (e .1); whites = λ x e n. K .whites x (up x e) (λ h. n (inr h)) ∙ old-white c x _ (e .1) (λ q. n (inl q)) }
+    keeps-B : Keeps r B0 B1 D → Keeps (k ∷ r) s0 s1 D
+    keeps-B K = record { longer = let i = rw length-1 at (K .longer) in omega arith; level = K .level; blacks = λ x e. K .blacks x (up x e) ∙ at-left s0 _ x (e .1); whites = λ x e n. K .whites x (up x e) (λ h. n (inr h)) ∙ old-white c x _ (e .1) (λ q. n (inl q)) }
       where
         up : (x : ℕ) → Edge (length s0) x → Edge (length B0) x
         up x e = rw length-1 (omega arith)
@@ -196,14 +196,14 @@ module _ (k : ℕ) (r s0 s1 : List ℕ) (S : State (k ∷ r) s0 s1) where
       fixed = λ x h. J-other x (old-r x (cut-has d r x h)) (cut-p x h) ∙ S .fixed x (inr (cut-has d r x h));
     }
 
-    pub Jd-k : (D : Pair) → Kept (cut d r) s0 J1 D → at (D .white) k ≡ p
+    pub Jd-k : (D : Pair) → Keeps (cut d r) s0 J1 D → at (D .white) k ≡ p
     Jd-k D K = K .whites k k-in (λ h. S .apart .0 (cut-has d r k h)) ∙ J-k
 
-    pub Jd-p : (D : Pair) → Kept (cut d r) s0 J1 D → at (D .white) p ≡ k
+    pub Jd-p : (D : Pair) → Keeps (cut d r) s0 J1 D → at (D .white) p ≡ k
     Jd-p D K = K .whites p p-in (cut-not d r (S .apart .1) l) ∙ J-p
 
-    kept-J : (D : Pair) → Kept (cut d r) s0 J1 D → Kept (k ∷ r) s0 s1 D
-    kept-J D K = record {
+    keeps-J : (D : Pair) → Keeps (cut d r) s0 J1 D → Keeps (k ∷ r) s0 s1 D
+    keeps-J D K = record {
       longer = K .longer;
       level = K .level;
       blacks = K .blacks;
@@ -217,23 +217,23 @@ pub picked : (b : Bool) (q : Option Pair) (D : Pair) → pick b q none ≡ some 
 picked true q D e = (refl, e)
 picked false q D e = absurd (none≢some D e)
 
-pub kept : (w st s0 s1 : List ℕ) (D : Pair) → State st s0 s1 → spells w st s0 s1 ≡ some D → Kept st s0 s1 D
+pub keeps : (w st s0 s1 : List ℕ) (D : Pair) → State st s0 s1 → spells w st s0 s1 ≡ some D → Keeps st s0 s1 D
 unfolding spells
-kept [] [] s0 s1 D S e = record { longer = rw b (omega arith); level = rw (b, w) (S .even); blacks = λ x i. rw b; whites = λ x i n. rw w }
+keeps [] [] s0 s1 D S e = record { longer = rw b (omega arith); level = rw (b, w) (S .even); blacks = λ x i. rw b; whites = λ x i n. rw w }
   where
     b : D .black ≡ s0
     b = cc
 
     w : D .white ≡ s1
     w = cc
-kept [] (k ∷ r) s0 s1 D S e = absurd (none≢some D e)
-kept (x ∷ w) [] s0 s1 D S e = absurd (none≢some D e)
-kept (zero ∷ w) (k ∷ r) s0 s1 D S e = kept-W k r s0 s1 S D (kept w r s0 s1 D (state-W k r s0 s1 S) e)
-kept (suc zero ∷ w) (k ∷ r) s0 s1 D S e = kept-F k r s0 s1 S D (kept w _ _ _ D (state-F k r s0 s1 S) e)
-kept (suc (suc zero) ∷ w) (k ∷ r) s0 s1 D S e = kept-B k r s0 s1 S D (kept w _ _ _ D (state-B k r s0 s1 S) e)
-kept (suc (suc (suc d)) ∷ w) (k ∷ r) s0 s1 D S e = let q = picked (ltb d (length r)) (spells w (cut d r) s0 (put (put s1 k (getD r d 0)) (getD r d 0) k)) D e in
+keeps [] (k ∷ r) s0 s1 D S e = absurd (none≢some D e)
+keeps (x ∷ w) [] s0 s1 D S e = absurd (none≢some D e)
+keeps (zero ∷ w) (k ∷ r) s0 s1 D S e = keeps-W k r s0 s1 S D (keeps w r s0 s1 D (state-W k r s0 s1 S) e)
+keeps (suc zero ∷ w) (k ∷ r) s0 s1 D S e = keeps-F k r s0 s1 S D (keeps w _ _ _ D (state-F k r s0 s1 S) e)
+keeps (suc (suc zero) ∷ w) (k ∷ r) s0 s1 D S e = keeps-B k r s0 s1 S D (keeps w _ _ _ D (state-B k r s0 s1 S) e)
+keeps (suc (suc (suc d)) ∷ w) (k ∷ r) s0 s1 D S e = let q = picked (ltb d (length r)) (spells w (cut d r) s0 (put (put s1 k (getD r d 0)) (getD r d 0) k)) D e in
     let l = ltb-true d (length r) (q .0) in
-    kept-J k r s0 s1 S d l D (kept w (cut d r) s0 _ D (state-J k r s0 s1 S d l) (q .1))
+    keeps-J k r s0 s1 S d l D (keeps w (cut d r) s0 _ D (state-J k r s0 s1 S d l) (q .1))
 
 -- the items are at most the pending labels and the labels still to come
 pub short : (w st s0 s1 : List ℕ) (D : Pair) → spells w st s0 s1 ≡ some D → length w + length s0 ≤ length st + length (D .black)

@@ -14,7 +14,7 @@ use Rattle.lists.proofs.Ranges.{has-down}
 use Rattle.lists.proofs.Tests.{same?, ltb-true}
 use Rattle.diagrams.specs.Diagram.{Reached, Diagram, here, black, white}
 use Rattle.words.specs.Word.{Pair, spells, spell}
-use Rattle.words.proofs.Growing.{State, kept, state-W, state-F, state-B, state-J, k-in, p-in, F-k, F-w, F-c, F-sc, F-ssc, B-k, B-w, B-c, W-k, Jd-k, Jd-p, none≢some, picked, state-U, state-T}
+use Rattle.words.proofs.Growing.{State, keeps, state-W, state-F, state-B, state-J, k-in, p-in, F-k, F-w, F-c, F-sc, F-ssc, B-k, B-w, B-c, W-k, Jd-k, Jd-p, none≢some, picked, state-U, state-T}
 
 -- of the labels up to c, those of st pending
 record Good (f g : ℕ → ℕ) (c : ℕ) (st : List ℕ) : Type 0 where
@@ -151,20 +151,20 @@ good [] (k ∷ r) s0 s1 D S e G = absurd (none≢some D e)
 good (x ∷ w) [] s0 s1 D S e G = absurd (none≢some D e)
 good (zero ∷ w) (k ∷ r) s0 s1 D S e G =
     let T = state-W k r s0 s1 S in
-    good w r s0 s1 D T e (good-W _ _ (length s0) k r G (k-in k r s0 s1 S) (W-k k r s0 s1 S D (kept w r s0 s1 D T e)))
+    good w r s0 s1 D T e (good-W _ _ (length s0) k r G (k-in k r s0 s1 S) (W-k k r s0 s1 S D (keeps w r s0 s1 D T e)))
 good (suc zero ∷ w) (k ∷ r) s0 s1 D S e G =
     let T = state-F k r s0 s1 S in
-    let K = kept w _ _ _ D T e in
+    let K = keeps w _ _ _ D T e in
     good w _ _ _ D T e (rw length-3 (good-F _ _ (length s0) k r G (k-in k r s0 s1 S) (F-k k r s0 s1 S D K) (F-w k r s0 s1 S D K) (F-c k r s0 s1 S D K) (F-sc k r s0 s1 S D K) (F-ssc k r s0 s1 S D K)))
 good (suc (suc zero) ∷ w) (k ∷ r) s0 s1 D S e G =
     let T = state-B k r s0 s1 S in
-    let K = kept w _ _ _ D T e in
+    let K = keeps w _ _ _ D T e in
     good w _ _ _ D T e (rw length-1 (good-B _ _ (length s0) k r G (k-in k r s0 s1 S) (B-k k r s0 s1 S D K) (B-w k r s0 s1 S D K) (B-c k r s0 s1 S D K)))
 good (suc (suc (suc d)) ∷ w) (k ∷ r) s0 s1 D S e G =
     let q = picked (ltb d (length r)) (spells w (cut d r) s0 (put (put s1 k (getD r d 0)) (getD r d 0) k)) D e in
     let l = ltb-true d (length r) (q .0) in
     let T = state-J k r s0 s1 S d l in
-    let K = kept w (cut d r) s0 _ D T (q .1) in
+    let K = keeps w (cut d r) s0 _ D T (q .1) in
     good w (cut d r) s0 _ D T (q .1) (good-J _ _ (length s0) k r G (k-in k r s0 s1 S) d (getD r d 0) refl (p-in k r s0 s1 S d l) (Jd-k k r s0 s1 S d l D K) (Jd-p k r s0 s1 S d l D K))
 
 good-1 : (f g : ℕ → ℕ) → f 1 ≡ 1 → Good f g 1 (1 ∷ [])
@@ -204,10 +204,10 @@ pub spelled-diagram : (w : List ℕ) (D : Pair) → spell w ≡ some D → Diagr
 unfolding spell
 spelled-diagram [] D e = absurd (none≢some D e)
 spelled-diagram (zero ∷ w) D e =
-    let K = kept w _ _ _ D state-U e in
+    let K = keeps w _ _ _ D state-U e in
     valid-of _ _ _ (K .longer) (good w _ _ _ D state-U e (good-1 _ _ (K .blacks 1 (omega arith))))
 spelled-diagram (suc zero ∷ w) D e =
-    let K = kept w _ _ _ D state-T e in
+    let K = keeps w _ _ _ D state-T e in
     let i = K .longer in
     valid-of _ _ _ (omega arith) (good w _ _ _ D state-T e (good-3 _ _ (K .blacks 1 (omega arith)) (K .blacks 2 (omega arith)) (K .blacks 3 (omega arith))))
 spelled-diagram (suc (suc x) ∷ w) D e = absurd (none≢some D e)
