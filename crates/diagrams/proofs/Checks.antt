@@ -1,0 +1,106 @@
+-- Laws of check's answer: what it accepts are the rooted diagrams of size 1 to 1,024, and each lent diagram has one answer only.
+use mathlib.Core.Path.{_≡_, refl, sym, ap, _∙_}
+use mathlib.Core.Logic.{_≢_, _⊎_, inl, inr, _↔_}
+use mathlib.Core.List.{List}
+use Prim.Native.Nat.{ℕ, zero, suc, _<_, _≤_}
+use native.Mathlib.Omega.{arith}
+use lib.ListN.{length}
+use Rattle.lists.proofs.Tests.{same?, lt?}
+use Rattle.diagrams.specs.Diagram.{Maps, Diagram, Rooted}
+use Rattle.diagrams.specs.Check.{Size, Lengths, Root, Entries, Thrice, Twice, Connected, Accepts, Refuses, no-size, no-lengths, no-root, no-blacks, no-whites, no-thrice, no-twice, no-path, Checked}
+use Rattle.diagrams.specs.declared.Verdict.{Verdict}
+use Rattle.diagrams.specs.declared.Verdict.the-variants.{Accepted, Refused}
+
+pub accepts-rooted : (s0 s1 : List ℕ) (root : ℕ) → Accepts s0 s1 root ↔ (Size s0 × Rooted s0 s1 root)
+accepts-rooted s0 s1 root = (to, from)
+  where
+    to : Accepts s0 s1 root → Size s0 × Rooted s0 s1 root
+    to a = (a .size, record {
+      lengths = a .lengths;
+      root-in = a .root-in;
+      diagram = record {
+        maps = record { some-edge = a .size .0; black-in = a .blacks; white-in = a .whites; thrice = a .thrice; twice = rw (← a .lengths) (a .twice) };
+        connected = a .connected;
+      };
+    })
+
+    from : Size s0 × Rooted s0 s1 root → Accepts s0 s1 root
+    from r = record {
+      size = r .0;
+      lengths = r .1 .lengths;
+      root-in = r .1 .root-in;
+      blacks = r .1 .diagram .maps .black-in;
+      whites = r .1 .diagram .maps .white-in;
+      thrice = r .1 .diagram .maps .thrice;
+      twice = rw (r .1 .lengths) (r .1 .diagram .maps .twice);
+      connected = r .1 .diagram .connected;
+    }
+
+-- ---- one answer only
+
+module _ (s0 s1 : List ℕ) (root : ℕ) where
+  -- what refusal k says to fail; nothing under other numbers
+  abbrev Asked : ℕ → Type 0
+  Asked zero = Unit {0}
+  Asked (suc zero) = Size s0
+  Asked (suc (suc zero)) = Lengths s0 s1
+  Asked (suc (suc (suc zero))) = Root s0 root
+  Asked (suc (suc (suc (suc zero)))) = Entries (length s0) s0
+  Asked (suc (suc (suc (suc (suc zero))))) = Entries (length s0) s1
+  Asked (suc (suc (suc (suc (suc (suc zero)))))) = Thrice s0
+  Asked (suc (suc (suc (suc (suc (suc (suc zero))))))) = Twice s1
+  Asked (suc (suc (suc (suc (suc (suc (suc (suc zero)))))))) = Connected s0 s1
+  Asked (suc (suc (suc (suc (suc (suc (suc (suc (suc k))))))))) = Unit {0}
+
+  -- what is asked under each number below k
+  abbrev Before : ℕ → Type 0
+  Before zero = Unit {0}
+  Before (suc k) = Before k × Asked k
+
+  before-asked : (k j : ℕ) → j < k → Before k → Asked j
+  before-asked zero j l b = absurd (omega arith)
+  before-asked (suc k) j l b = go (same? j k) (λ l. before-asked k j l (b .0))
+    where
+      go : (j ≡ k) ⊎ (j ≢ k) → (j < k → Asked j) → Asked j
+      go (inl e) h = rw e (b .1)
+      go (inr n) h = h (omega arith)
+
+  refused-at : {k : ℕ} → Refuses s0 s1 root k → Before k × (¬ Asked k)
+  refused-at (no-size n) = ((tt, tt), n)
+  refused-at (no-lengths a n) = (((tt, tt), a), n)
+  refused-at (no-root a b n) = ((((tt, tt), a), b), n)
+  refused-at (no-blacks a b c n) = (((((tt, tt), a), b), c), n)
+  refused-at (no-whites a b c d n) = ((((((tt, tt), a), b), c), d), n)
+  refused-at (no-thrice a b c d e n) = (((((((tt, tt), a), b), c), d), e), n)
+  refused-at (no-twice a b c d e f n) = ((((((((tt, tt), a), b), c), d), e), f), n)
+  refused-at (no-path a b c d e f g n) = (((((((((tt, tt), a), b), c), d), e), f), g), n)
+
+  accepted-at : Accepts s0 s1 root → Before 9
+  accepted-at a = (((((((((tt, tt), a .size), a .lengths), a .root-in), a .blacks), a .whites), a .thrice), a .twice), a .connected)
+
+  refused-number : {k : ℕ} → Refuses s0 s1 root k → k < 9
+  refused-number (no-size n) = omega arith
+  refused-number (no-lengths _ n) = omega arith
+  refused-number (no-root _ _ n) = omega arith
+  refused-number (no-blacks _ _ _ n) = omega arith
+  refused-number (no-whites _ _ _ _ n) = omega arith
+  refused-number (no-thrice _ _ _ _ _ n) = omega arith
+  refused-number (no-twice _ _ _ _ _ _ n) = omega arith
+  refused-number (no-path _ _ _ _ _ _ _ n) = omega arith
+
+  refused-once : (j k : ℕ) → Refuses s0 s1 root j → Refuses s0 s1 root k → j ≡ k
+  refused-once j k a b = go (lt? j k) (lt? k j)
+    where
+      go : (j < k) ⊎ (k ≤ j) → (k < j) ⊎ (j ≤ k) → j ≡ k
+      go (inl l) m = absurd (refused-at a .1 (before-asked k j l (refused-at b .0)))
+      go (inr l) (inl m) = absurd (refused-at b .1 (before-asked j k m (refused-at a .0)))
+      go (inr l) (inr m) = omega arith
+
+  not-both : (k : ℕ) → Accepts s0 s1 root → Refuses s0 s1 root k → ⊥
+  not-both k a r = refused-at r .1 (before-asked 9 k (refused-number r) (accepted-at a))
+
+  pub checked-once : (a b : Verdict) → Checked s0 s1 root a → Checked s0 s1 root b → a ≡ b
+  checked-once Accepted Accepted p q = refl
+  checked-once Accepted (Refused k) p q = absurd (not-both k p q)
+  checked-once (Refused j) Accepted p q = absurd (not-both j q p)
+  checked-once (Refused j) (Refused k) p q = ap Refused (refused-once j k p q)

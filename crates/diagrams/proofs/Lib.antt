@@ -1,0 +1,4 @@
+pub mod Diagrams
+pub mod Isomorphisms
+pub mod Checks
+pub mod Examples
