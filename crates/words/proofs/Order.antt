@@ -1,14 +1,17 @@
 -- Laws of dictionary order: it is strict and total, the test `precedes` decides it, and `lesser` picks the least of two.
 -- Each goes by recursion on both lists, comparing their first items.
 use mathlib.Core.Path.{_≡_, refl, sym, _∙_}
-use mathlib.Core.Logic.{_⊎_, inl, inr}
+use mathlib.Core.Logic.{_≢_, _⊎_, inl, inr}
 use mathlib.Core.Bool.{Bool, true, false, true≢false}
 use mathlib.Core.List.{List, [], _∷_}
-use Prim.Native.Nat.{ℕ, _≤_, _<_}
+use Prim.Native.Nat.{ℕ, _+_, _≤_, _<_}
+use native.Mathlib.Numerals.{add-one}
 use native.Mathlib.Omega.{arith}
 use lib.Dec.{eqb, ltb}
+use lib.ListN.{length, getD, drop, drop-of-length-le}
+use lib.Seq.{drop-cons}
 use Rattle.lists.specs.Lists.{pick}
-use Rattle.lists.proofs.Tests.{lt?, lt-true, lt-false, ltb-true, eqb-eq, eqb-true, both-true}
+use Rattle.lists.proofs.Tests.{lt?, lt-true, lt-false, ltb-true, eqb-eq, eqb-ne, eqb-true, both-true}
 use Rattle.words.specs.Order.{Before, precedes, lesser}
 
 -- ---- a strict order
@@ -97,3 +100,21 @@ lesser-least u v = go (precedes v u) refl
 -- on equality the second does not precede, so `lesser` picks the first
 pub lesser-first : (u v : List ℕ) → u ≡ v → precedes v u ≡ false
 lesser-first u v e = before-false v u (rw e (before-irrefl v))
+
+-- ---- the steps of a comparison: what is left of both lists from place i on decides
+
+pub precedes-from : (u v : List ℕ) (i : ℕ) → i < length u → i < length v → getD u i 0 ≡ getD v i 0 → precedes (drop i u) (drop i v) ≡ precedes (drop (i + 1) u) (drop (i + 1) v)
+precedes-from u v i hu hv e = rw (drop-cons u i 0 hu, drop-cons v i 0 hv, add-one, lt-false (getD u i 0) (getD v i 0) (omega arith), eqb-eq (getD u i 0) (getD v i 0) e)
+
+pub precedes-by : (u v : List ℕ) (i : ℕ) → i < length u → i < length v → getD u i 0 ≢ getD v i 0 → precedes (drop i u) (drop i v) ≡ ltb (getD u i 0) (getD v i 0)
+precedes-by u v i hu hv n = rw (drop-cons u i 0 hu, drop-cons v i 0 hv, eqb-ne (getD u i 0) (getD v i 0) n) (same (ltb (getD u i 0) (getD v i 0)))
+  where
+    same : (b : Bool) → pick b true false ≡ b
+    same true = refl
+    same false = refl
+
+pub precedes-short : (u v : List ℕ) (i : ℕ) → length u ≤ i → i < length v → precedes (drop i u) (drop i v) ≡ true
+precedes-short u v i hu hv = rw (drop-of-length-le u hu, drop-cons v i 0 hv)
+
+pub precedes-over : (u v : List ℕ) (i : ℕ) → length v ≤ i → precedes (drop i u) (drop i v) ≡ false
+precedes-over u v i h = rw (drop-of-length-le v h)
