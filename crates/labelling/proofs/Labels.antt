@@ -14,6 +14,8 @@ use Rattle.lists.proofs.Ranges.{down-has, apart-down, length-down, onto}
 use Rattle.lists.proofs.Tests.{eqb-same, eqb-ne, same?}
 use Rattle.diagrams.specs.Diagram.{Reached, Maps, Diagram, here, black, white}
 use Rattle.diagrams.specs.Isomorphism.{Isomorphism}
+use Rattle.diagrams.proofs.Diagrams.{reached-from-any}
+use Rattle.diagrams.proofs.Isomorphisms.{diagram-carried}
 use Rattle.labelling.specs.Labelling.{turn, move, run, label, lab, edge, relabel}
 use Rattle.labelling.proofs.Along.{Inv, size, finish}
 use Rattle.labelling.proofs.Carried.{label-φ}
@@ -99,12 +101,7 @@ lab-down : (o : List ℕ) → Apart o → map (lab o) o ≡ down (length o)
 lab-down [] a = refl
 lab-down (y ∷ o) a = rw (eqb-same y, map-same (lab (y ∷ o)) (lab o) o (λ x h. rw (eqb-ne x y (λ q. a .0 (rw q at h)))), lab-down o (a .1))
 
--- ---- reaching
-
-reach-trans : {f g : ℕ → ℕ} {a b c : ℕ} → Reached f g a b → Reached f g b c → Reached f g a c
-reach-trans p here = p
-reach-trans p (black q) = black (reach-trans p q)
-reach-trans p (white q) = white (reach-trans p q)
+-- ---- the end of the labelling
 
 -- what the labelled edges are in the end
 pub record Done (n : ℕ) (f g : ℕ → ℕ) (r : ℕ) (M : List ℕ) : Type 0 where
@@ -113,23 +110,6 @@ pub record Done (n : ℕ) (f g : ℕ → ℕ) (r : ℕ) (M : List ℕ) : Type 0 
   pub root-lab : lab M r ≡ 1
 
 module _ (n : ℕ) (f g : ℕ → ℕ) (D : Maps n f g) where
-  pub reach-edge : {a x : ℕ} → Edge n a → Reached f g a x → Edge n x
-  reach-edge e here = e
-  reach-edge e (black {x = y} q) = D .black-in y (reach-edge e q)
-  reach-edge e (white {x = y} q) = D .white-in y (reach-edge e q)
-
-  reach-back : {a x : ℕ} → Edge n a → Reached f g a x → Reached f g x a
-  reach-back e here = here
-  reach-back e (black {x = y} q) =
-      let z : Reached f g (f y) (f (f (f y))) = black (black here) in
-      reach-trans (rw (D .thrice y (reach-edge e q)) at z) (reach-back e q)
-  reach-back e (white {x = y} q) =
-      let z : Reached f g (g y) (g (g y)) = white here in
-      reach-trans (rw (D .twice y (reach-edge e q)) at z) (reach-back e q)
-
-  one : Edge n 1
-  one = let i = D .some-edge in omega arith
-
   -- a closed set that has r has every edge reached from r
   reach-has : (M : List ℕ) (r x : ℕ) → Has r M → ((y : ℕ) → Has y M → Has (f y) M) → ((y : ℕ) → Has y M → Has (g y) M) → Reached f g r x → Has x M
   reach-has M r x h b w here = h
@@ -186,13 +166,10 @@ module _ (n : ℕ) (f g : ℕ → ℕ) (D : Maps n f g) where
         go (inr q) = rw (label-T n f g r q) (ended (f (f r) ∷ f r ∷ r ∷ []) (inv-T q) (omega arith) (inr (inr (inl refl))) (lab-append r (f (f r) ∷ f r ∷ []) (r ∷ []) (inl refl) (inv-T q .apart) ∙ rw eqb-same))
 
 module _ (n : ℕ) (f g : ℕ → ℕ) (D : Diagram n f g) where
-  pub reach : (r x : ℕ) → Edge n r → Edge n x → Reached f g r x
-  reach r x e i = reach-trans (reach-back n f g (D .maps) (one n f g (D .maps)) (D .connected r e)) (D .connected x i)
-
   module _ (r : ℕ) (e : Edge n r) where
     module _ (M : List ℕ) (d : Done n f g r M) where
       pub all-in : (x : ℕ) → Edge n x → Has x M
-      all-in x i = reach-has n f g (D .maps) M r x (d .root) (d .inv .closed) (λ y h. d .inv .settled y h (λ z. z) .0) (reach r x e i)
+      all-in x i = reach-has n f g (D .maps) M r x (d .root) (d .inv .closed) (λ y h. d .inv .settled y h (λ z. z) .0) (reached-from-any D r x e i)
 
       pub whole : length M ≡ n
       whole =
@@ -219,26 +196,8 @@ module _ (n : ℕ) (f g : ℕ → ℕ) (D : Diagram n f g) where
       pub carries : Isomorphism n f g (relabel M f) (relabel M g) (lab M)
       carries = record { into = lab-n; onto = λ y i. (edge M y, edge-n y i, lab-edge-n y i); one-one = λ x y a b q. sym (edge-lab-n x a) ∙ ap (edge M) q ∙ edge-lab-n y b; blacks = λ x a. sym (through f x a); whites = λ x a. sym (through g x a) }
 
-      -- every label is the label of its edge
-      as-lab : (P : ℕ → Type 0) → ((x : ℕ) → Edge n x → P (lab M x)) → (j : ℕ) → Edge n j → P j
-      as-lab P k j i = rw (lab-edge-n j i) at (k (edge M j) (edge-n j i))
-
-      reach-lab : {x : ℕ} → Reached f g r x → Reached (relabel M f) (relabel M g) 1 (lab M x)
-      reach-lab here = rw (d .root-lab) here
-      reach-lab (black {x = y} q) = rw (through f y (reach-edge n f g (D .maps) e q)) at (black (reach-lab q))
-      reach-lab (white {x = y} q) = rw (through g y (reach-edge n f g (D .maps) e q)) at (white (reach-lab q))
-
       pub relabelled : Diagram n (relabel M f) (relabel M g)
-      relabelled = record {
-        maps = record {
-          some-edge = D .maps .some-edge;
-          black-in = as-lab (λ j. Edge n (relabel M f j)) (λ x i. rw (through f x i) (lab-n (f x) (D .maps .black-in x i)));
-          white-in = as-lab (λ j. Edge n (relabel M g j)) (λ x i. rw (through g x i) (lab-n (g x) (D .maps .white-in x i)));
-          thrice = as-lab (λ j. relabel M f (relabel M f (relabel M f j)) ≡ j) (λ x i. rw (through f x i, through f (f x) (D .maps .black-in x i), through f (f (f x)) (D .maps .black-in (f x) (D .maps .black-in x i)), D .maps .thrice x i));
-          twice = as-lab (λ j. relabel M g (relabel M g j) ≡ j) (λ x i. rw (through g x i, through g (g x) (D .maps .white-in x i), D .maps .twice x i));
-        };
-        connected = as-lab (λ j. Reached (relabel M f) (relabel M g) 1 j) (λ x i. reach-lab (reach r x e i));
-      }
+      relabelled = diagram-carried D carries
 
     -- the relabelled diagram's own labelling from 1: the same word, and each edge is its label
     pub canonical : let M = label n f g r .marked in label n (relabel M f) (relabel M g) 1 ≡ record { marked = down n; word = label n f g r .word }

@@ -7,7 +7,6 @@ use native.Mathlib.Nat.{not-suc-le-zero, le-of-suc-le-suc}
 use native.Mathlib.Omega.{arith}
 use lib.Dec.{ltb}
 use lib.ListN.{length, getD}
-use Rattle.words.proofs.Growing.{State, keeps, short, state-W, state-F, state-B, state-J, k-in, p-in, F-k, F-c, F-sc, B-k, B-c, W-k, Jd-k, none≢some, picked, state-U, state-T, p-k}
 use Rattle.lists.specs.Lists.{at, put, cut}
 use Rattle.lists.specs.Ranges.{down}
 use Rattle.lists.proofs.Lists.{find-getD, length-3, length-1}
