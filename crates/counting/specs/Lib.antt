@@ -1,3 +1,4 @@
 pub mod Listing
 pub mod Position
 pub mod Ranking
+pub mod Diagrams
