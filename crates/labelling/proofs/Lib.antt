@@ -5,3 +5,6 @@ pub mod Labels
 pub mod OwnWord
 pub mod SpelledWord
 pub mod WordsAlike
+pub mod Ended
+pub mod OfLists
+pub mod Rootings
