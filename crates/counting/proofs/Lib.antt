@@ -1,3 +1,4 @@
 pub mod Tails
 pub mod Listing
 pub mod Ranking
+pub mod Examples

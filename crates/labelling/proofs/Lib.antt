@@ -8,3 +8,4 @@ pub mod WordsAlike
 pub mod Ended
 pub mod OfLists
 pub mod Rootings
+pub mod Examples

@@ -8,9 +8,8 @@ use lib.ListN.{length}
 use Rattle.lists.specs.Lists.{at, listed}
 use Rattle.lists.specs.Ranges.{Edge}
 use Rattle.lists.proofs.Lists.{length-listed, at-listed}
-use Rattle.lists.proofs.Ranges.{onto}
 use Rattle.diagrams.specs.Check.{Accepts}
-use Rattle.diagrams.specs.Diagram.{Diagram, black, white}
+use Rattle.diagrams.specs.Diagram.{Diagram}
 use Rattle.diagrams.specs.Isomorphism.{Isomorphism, RootAlike}
 use Rattle.diagrams.proofs.Checks.{accepts-rooted}
 use Rattle.diagrams.proofs.Diagrams.{edge-one, diagram-same}
@@ -18,7 +17,6 @@ use Rattle.diagrams.proofs.Isomorphisms.{root-isomorphic-sym, root-isomorphic-t
 use Rattle.words.specs.Word.{Pair, spell, Spells}
 use Rattle.words.proofs.Spelled.{spelled-diagram, spelled-lengths}
 use Rattle.labelling.specs.Labelling.{Labelled, label, lab, relabel, labels, wordOf, characteristic}
-use Rattle.labelling.proofs.Along.{size}
 use Rattle.labelling.proofs.Labels.{Done, done, carries, relabelled}
 use Rattle.labelling.proofs.SpelledWord.{spelled-word}
 use Rattle.labelling.proofs.WordsAlike.{label-spells, iso-words, words-iso}

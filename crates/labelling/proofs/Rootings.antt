@@ -8,18 +8,15 @@ use native.Mathlib.Omega.{arith}
 use lib.ListN.{length}
 use Rattle.lists.specs.Lists.{at}
 use Rattle.lists.specs.Ranges.{Edge}
-use Rattle.lists.proofs.Ranges.{onto}
 use Rattle.lists.proofs.Tests.{same?}
 use Rattle.diagrams.specs.Check.{Accepts}
 use Rattle.diagrams.specs.Isomorphism.{Alike}
 use Rattle.diagrams.proofs.Isomorphisms.{root-isomorphic-isomorphic}
 use Rattle.words.specs.Order.{Before, lesser}
 use Rattle.words.proofs.Order.{compared, before-irrefl, before-trans, Compared, lesser-least, before, equal, after}
-use Rattle.labelling.specs.Labelling.{first, wordOf}
+use Rattle.labelling.specs.Labelling.{wordOf}
 use Rattle.labelling.specs.Rootings.{leastOf, leastWord, Kept}
-use Rattle.labelling.proofs.Along.{size}
 use Rattle.labelling.proofs.OfLists.{alike-words, words-alike}
-use Rattle.labelling.proofs.OwnWord.{L}
 
 pub accepts-rerooted : (s0 s1 : List ℕ) (r : ℕ) → Accepts s0 s1 r → (x : ℕ) → Edge (length s0) x → Accepts s0 s1 x
 accepts-rerooted s0 s1 r A x e = record {
