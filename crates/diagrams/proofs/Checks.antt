@@ -1,10 +1,10 @@
 -- Laws of check's answer: what it accepts are the rooted diagrams of size 1 to 1,024, and each lent diagram has one answer only.
 use mathlib.Core.Path.{_≡_, refl, sym, ap, _∙_}
 use mathlib.Core.Logic.{_≢_, _⊎_, inl, inr, _↔_}
-use mathlib.Core.List.{List}
+use mathlib.Core.List.{List, [], _∷_}
 use Prim.Native.Nat.{ℕ, zero, suc, _<_, _≤_}
 use native.Mathlib.Omega.{arith}
-use lib.ListN.{length}
+use lib.ListN.{length, getD, List·getD-eq-default}
 use Rattle.lists.proofs.Tests.{same?, lt?}
 use Rattle.diagrams.specs.Diagram.{Maps, Diagram, Rooted}
 use Rattle.diagrams.specs.Check.{Size, Lengths, Root, Entries, Thrice, Twice, Connected, Accepts, Refuses, no-size, no-lengths, no-root, no-blacks, no-whites, no-thrice, no-twice, no-path, Checked}
@@ -39,18 +39,13 @@ accepts-rooted s0 s1 root = (to, from)
 -- ---- one answer only
 
 module _ (s0 s1 : List ℕ) (root : ℕ) where
-  -- what refusal k says to fail; nothing under other numbers
+  -- what is asked, in the order of the refusals' numbers from 1
+  abbrev conditions : List (Type 0)
+  conditions = Unit ∷ Size s0 ∷ Lengths s0 s1 ∷ Root s0 root ∷ Entries (length s0) s0 ∷ Entries (length s0) s1 ∷ Thrice s0 ∷ Twice s1 ∷ Connected s0 s1 ∷ []
+
+  -- what refusal k says to fail; nothing under a number that is no refusal's
   abbrev Asked : ℕ → Type 0
-  Asked zero = Unit {0}
-  Asked (suc zero) = Size s0
-  Asked (suc (suc zero)) = Lengths s0 s1
-  Asked (suc (suc (suc zero))) = Root s0 root
-  Asked (suc (suc (suc (suc zero)))) = Entries (length s0) s0
-  Asked (suc (suc (suc (suc (suc zero))))) = Entries (length s0) s1
-  Asked (suc (suc (suc (suc (suc (suc zero)))))) = Thrice s0
-  Asked (suc (suc (suc (suc (suc (suc (suc zero))))))) = Twice s1
-  Asked (suc (suc (suc (suc (suc (suc (suc (suc zero)))))))) = Connected s0 s1
-  Asked (suc (suc (suc (suc (suc (suc (suc (suc (suc k))))))))) = Unit {0}
+  Asked k = getD conditions k Unit
 
   -- what is asked under each number below k
   abbrev Before : ℕ → Type 0
@@ -78,16 +73,6 @@ module _ (s0 s1 : List ℕ) (root : ℕ) where
   accepted-at : Accepts s0 s1 root → Before 9
   accepted-at a = (((((((((tt, tt), a .size), a .lengths), a .root-in), a .blacks), a .whites), a .thrice), a .twice), a .connected)
 
-  refused-number : {k : ℕ} → Refuses s0 s1 root k → k < 9
-  refused-number (no-size n) = omega arith
-  refused-number (no-lengths _ n) = omega arith
-  refused-number (no-root _ _ n) = omega arith
-  refused-number (no-blacks _ _ _ n) = omega arith
-  refused-number (no-whites _ _ _ _ n) = omega arith
-  refused-number (no-thrice _ _ _ _ _ n) = omega arith
-  refused-number (no-twice _ _ _ _ _ _ n) = omega arith
-  refused-number (no-path _ _ _ _ _ _ _ n) = omega arith
-
   refused-once : (j k : ℕ) → Refuses s0 s1 root j → Refuses s0 s1 root k → j ≡ k
   refused-once j k a b = go (lt? j k) (lt? k j)
     where
@@ -97,7 +82,11 @@ module _ (s0 s1 : List ℕ) (root : ℕ) where
       go (inr l) (inr m) = omega arith
 
   not-both : (k : ℕ) → Accepts s0 s1 root → Refuses s0 s1 root k → ⊥
-  not-both k a r = refused-at r .1 (before-asked 9 k (refused-number r) (accepted-at a))
+  not-both k a r = go (lt? k 9)
+    where
+      go : (k < 9) ⊎ (9 ≤ k) → ⊥
+      go (inl l) = refused-at r .1 (before-asked 9 k l (accepted-at a))
+      go (inr l) = refused-at r .1 (rw (List·getD-eq-default conditions Unit l) tt)
 
   pub checked-once : (a b : Verdict) → Checked s0 s1 root a → Checked s0 s1 root b → a ≡ b
   checked-once Accepted Accepted p q = refl

@@ -1,4 +1,7 @@
+pub mod Entries
+pub mod Answers
 pub mod Diagrams
 pub mod Isomorphisms
+pub mod Searching
 pub mod Checks
 pub mod Examples
