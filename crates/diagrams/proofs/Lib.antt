@@ -4,4 +4,5 @@ pub mod Diagrams
 pub mod Isomorphisms
 pub mod Searching
 pub mod Checks
+pub mod Holding
 pub mod Examples

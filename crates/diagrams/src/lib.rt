@@ -1,15 +1,16 @@
 // Trivalent diagrams: the type with its limits, and check.
+use lists::fill;
 use lists::wide;
 ghost use mathlib.Core.Path.{_≡_};
 ghost use mathlib.Core.Logic.{_↔_};
 ghost use mathlib.Core.Bool.{true};
 ghost use mathlib.Core.List.{[], _∷_};
-ghost use Prim.Native.Nat.{_≤_};
 ghost use lib.ListN.{length, take};
 ghost use Rattle.lists.specs.Lists.{at};
 ghost use Rattle.lists.specs.Ranges.{Edge};
 ghost use Rattle.diagrams.specs.Diagram.{Maps};
-ghost use Rattle.diagrams.specs.Check.{Size, Entries, Thrice, Twice, Connected, Checked, AllOne};
+ghost use Rattle.diagrams.specs.Check.{Entries, Thrice, Twice, Connected, Accepts, Checked, AllOne};
+ghost use Rattle.diagrams.specs.Held.{Held, MadeOf};
 ghost use Rattle.diagrams.specs.Search.{Mapped, joined, Search};
 
 pub enum Verdict {
@@ -30,6 +31,61 @@ impl Diagram {
     pub const MAX_SIZE: usize = 1024;
     // and counted, listed and shared ones at most this.
     pub const MAX_LISTED: usize = 50;
+
+    // The diagram of one edge, which both maps fix.
+    pub fn single() -> Diagram
+        ensures { λ r. ⌜ Held r (1 ∷ []) (1 ∷ []) 1 ⌝ }
+    {
+        let mut s0 = [0u16; Diagram::MAX_SIZE];
+        s0[0] = 1;
+        let s1 = s0;
+        Diagram {
+            s0,
+            s1,
+            size: 1,
+            root: 1,
+        }
+    }
+
+    // The lent diagram, checked; a refusal comes with the single edge.
+    pub fn checked(s0: &[u16], s1: &[u16], root: u64) -> Made
+        ensures { λ r. ⌜ MadeOf (now (s0 .entry)) (now (s1 .entry)) root r ⌝ }
+    {
+        let verdict = check(s0, s1, root);
+        match verdict {
+            Verdict::Accepted => Made {
+                verdict,
+                diagram: held(s0, s1, root),
+            },
+            Verdict::Refused(_) => Made {
+                verdict,
+                diagram: Diagram::single(),
+            },
+        }
+    }
+}
+
+// What making a diagram answers.
+pub struct Made {
+    pub verdict: Verdict,
+    pub diagram: Diagram,
+}
+
+// The lists and the root by value.
+fn held(s0: &[u16], s1: &[u16], root: u64) -> Diagram
+    requires { ⌜ Accepts (now s0) (now s1) root ⌝ }
+    ensures { λ r. ⌜ Held r (now (s0 .entry)) (now (s1 .entry)) root ⌝ }
+{
+    let mut black = [0u16; Diagram::MAX_SIZE];
+    let mut white = [0u16; Diagram::MAX_SIZE];
+    fill(&mut black, s0);
+    fill(&mut white, s1);
+    Diagram {
+        s0: black,
+        s1: white,
+        size: s0.len() as u16,
+        root: root as u16,
+    }
 }
 
 // Whether every mark is 1.
@@ -153,4 +209,36 @@ fn connected(s0: &[u16], s1: &[u16]) -> bool
     }
     let n = s0.len();
     all_reached(&marks[..n])
+}
+
+// Whether the lent lists and root are a rooted diagram, or the number of the first condition that fails.
+pub fn check(s0: &[u16], s1: &[u16], root: u64) -> Verdict
+    ensures { λ r. ⌜ Checked (now (s0 .entry)) (now (s1 .entry)) root r ⌝ }
+{
+    let n = s0.len();
+    if !within(n as u64, Diagram::MAX_SIZE) {
+        return Verdict::Refused(1);
+    }
+    if s1.len() != n {
+        return Verdict::Refused(2);
+    }
+    if !within(root, n) {
+        return Verdict::Refused(3);
+    }
+    if !entries_in(s0) {
+        return Verdict::Refused(4);
+    }
+    if !entries_in(s1) {
+        return Verdict::Refused(5);
+    }
+    if !thrice(s0) {
+        return Verdict::Refused(6);
+    }
+    if !twice(s1) {
+        return Verdict::Refused(7);
+    }
+    if !connected(s0, s1) {
+        return Verdict::Refused(8);
+    }
+    Verdict::Accepted
 }
