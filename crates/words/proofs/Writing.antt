@@ -1,14 +1,17 @@
 -- Laws of writing bytes at a place: byte by byte, one piece after another, and the letters of a word event by event.
 use mathlib.Core.Path.{_≡_, refl, sym, ap, _∙_}
+use mathlib.Core.Logic.{_≢_}
 use mathlib.Core.List.{List, [], _∷_, _++_, append-assoc}
 use Prim.Native.Nat.{ℕ, zero, suc, _+_, _-_, _≤_, _<_}
 use native.Mathlib.Numerals.{add-one}
-use native.Mathlib.Nat.{add-zero, zero-add}
+use native.Mathlib.Nat.{add-zero}
 use native.Mathlib.Omega.{arith}
 use lib.ListN.{length, getD, set, take, drop, length-append, length-drop, length-set, drop-of-length-le, take-append-drop}
-use lib.Seq.{length-take-le, set-split, take-set-le, drop-set-lt, drop-cons, getD-set-same, take-at, drop-append-add, drop-drop}
-use Rattle.lists.proofs.Tests.{le-true, le-false}
-use Rattle.words.specs.Letters.{decimal, over, Wrote, Put, event-letters, events-letters}
+use lib.Seq.{length-take-le, take-all, set-split, take-set-le, drop-set-lt, drop-cons, getD-set-same, take-at, drop-append-add, drop-drop}
+use Rattle.lists.proofs.Tests.{lt-true, lt-false, le-true, le-false}
+use Rattle.words.specs.Letters.{decimal, over, Wrote, Put, first-letter, event-letters, events-letters, letters, Lettering}
+use Rattle.words.specs.declared.Lettered.{Lettered}
+use Rattle.words.specs.declared.Lettered.the-variants.{Length, Refused}
 
 -- ---- at a place
 
@@ -51,9 +54,6 @@ over-over d i s t h =
 
     far : i + length (s ++ t) ≡ n + length t
     far = simp length-append (omega arith)
-
-pub over-start : (d s : List ℕ) → over d 0 s ≡ s ++ drop (length s) d
-over-start d s = rw zero-add
 
 -- ---- a write and the place after it
 
@@ -145,3 +145,45 @@ rest-end d i w e next k h l = record {
   where
     none : events-letters (drop k w) ≡ []
     none = events-over w k h
+
+-- ---- the answer of `letters`
+
+letters-length : (x : ℕ) (w : List ℕ) → x < 2 → length (letters (x ∷ w)) ≡ suc (length (events-letters w))
+unfolding letters
+letters-length zero w h = refl
+letters-length (suc zero) w h = refl
+letters-length (suc (suc x)) w h = absurd (omega arith)
+
+pub lettering-none : (w d : List ℕ) → length w ≡ 0 → Lettering w d (Length 0) d
+unfolding letters
+lettering-none [] d h = record { answer = rw (le-true 0 (length d) (omega arith)); room = refl }
+lettering-none (x ∷ w) d h = absurd (omega arith)
+
+pub lettering-first : (w d : List ℕ) → 1 < getD w 0 0 → Lettering w d (Refused 22) d
+lettering-first [] d h = absurd (omega arith)
+lettering-first (x ∷ w) d h = record { answer = rw (lt-false x 2 h); room = refl }
+
+pub lettering-short : (x : ℕ) (w d : List ℕ) → x < 2 → length d ≤ length (events-letters w) → Lettering (x ∷ w) d (Refused 9) d
+lettering-short x w d h s = record { answer = rw (lt-true x 2 h, le-false (length (letters (x ∷ w))) (length d) (omega (arith, letters-length x w h))); room = refl }
+
+pub lettering-whole : (x b : ℕ) (w d : List ℕ) (n : ℕ) (e : List ℕ) → x < 2 → first-letter x ≡ b ∷ [] → length (events-letters w) < length d
+    → Wrote (set d 0 b) 1 (events-letters w) n e → Lettering (x ∷ w) d (Length n) e
+unfolding letters
+lettering-whole x b w d n e h f s a = record {
+    answer = rw (lt-true x 2 h, le-true (length (letters (x ∷ w))) (length d) (omega (arith, l))) (ap Length (size ∙ sym l));
+    room = rw (f, all .next) (all .bytes);
+  }
+  where
+    l : length (letters (x ∷ w)) ≡ suc (length (events-letters w))
+    l = letters-length x w h
+
+    all : Wrote d 0 (b ∷ events-letters w) n e
+    all = wrote-then d 0 (b ∷ []) (events-letters w) 1 (set d 0 b) n e (omega arith) (wrote-byte d 0 b (omega arith)) a
+
+    size : n ≡ suc (length (events-letters w))
+    size = omega (arith, all .next)
+
+-- a word is its first item and the part after it
+pub lettering-split : (w d : List ℕ) (r : Lettered) (e : List ℕ) → length w ≢ 0 → Lettering (getD w 0 0 ∷ take (length w - 1) (drop 1 w)) d r e → Lettering w d r e
+lettering-split [] d r e h l = absurd (h refl)
+lettering-split (x ∷ w) d r e h l = rw (take-all (length (x ∷ w) - 1) w (omega arith)) at l
