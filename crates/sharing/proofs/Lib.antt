@@ -1,2 +1,4 @@
 pub mod Partition
 pub mod SoundBook
+pub mod Accepted
+pub mod Ledger
