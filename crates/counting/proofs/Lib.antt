@@ -2,3 +2,5 @@ pub mod Tails
 pub mod Listing
 pub mod Ranking
 pub mod Examples
+pub mod Positions
+pub mod InPlace

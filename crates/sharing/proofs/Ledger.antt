@@ -16,7 +16,8 @@ use Rattle.lists.proofs.Ranges.{every-true, true-every}
 use Rattle.sharing.specs.declared.types.Book.{Book}
 use Rattle.sharing.specs.Shares.{first, last, next, ticket, expiry, finished, done, sum, committed, complete, holder}
 use Rattle.sharing.specs.Calls.{opened, entered, ticked, moved}
-use Rattle.sharing.proofs.Partition.{Holds, last-all, last-le, share-of, held-in, share-once}
+use Rattle.sharing.specs.Holding.{Holds}
+use Rattle.sharing.proofs.Partition.{last-le, share-once}
 use Rattle.sharing.proofs.SoundBook.{ShareSound, SoundBook, Unused, Long, Fitting, entered-sound, entered-long, entered-next, other-next, ticked-sound}
 use Rattle.sharing.proofs.Accepted.{TicketGood, ticket-unfinished, freed, kept-on}
 

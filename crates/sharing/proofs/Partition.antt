@@ -8,12 +8,7 @@ use Rattle.lists.specs.Ranges.{Edge}
 use Rattle.lists.proofs.Tests.{lt?}
 use Rattle.counting.specs.Listing.{count}
 use Rattle.sharing.specs.Shares.{first, last}
-
--- share j of k holds the position p of size n
-pub record Holds (n k j p : ℕ) : Type 0 where
-  pub share : Edge k j
-  pub from : first n k j ≤ p
-  pub to : p ≤ last n k j
+use Rattle.sharing.specs.Holding.{Holds}
 
 module _ (n k : ℕ) (some : 0 < k) where
   last-zero : last n k 0 ≡ 0
