@@ -36,6 +36,15 @@ pub record Ledger (n k : ℕ) (b : Book) (C : List ℕ) : Type 0 where
 pub passed-held : {n k : ℕ} {b : Book} {C : List ℕ} → Ledger n k b C → (j p : ℕ) → Edge k j → first n k j ≤ p → p < next b j → Holds n k j p
 passed-held {n} {k} {b} L j p e l u = record { share = e; from = l; to = let z = rw (L .sized, L .shared) at (L .is-sound .share j (rw (L .shared) e) .to) in omega arith }
 
+-- the next position of an unfinished share is held by it alone, so that none has committed it
+pub next-uncommitted : {n k : ℕ} {b : Book} {C : List ℕ} → Ledger n k b C → (i : ℕ) → Holds n k i (next b i) → ¬ Has (next b i) C
+next-uncommitted {n} {k} {b} L i H h =
+    let q = L .from-share (next b i) h in
+    let e = share-once n k (let z = H .share in omega arith) (q .0) i (next b i) (passed-held L (q .0) (next b i) (q .1) (q .2) (q .3)) H in
+    let z : next b (q .0) ≡ next b i = ap (next b) e in
+    let y = q .3 in
+    omega arith
+
 -- ---- sums
 
 pub sum-same : (m : ℕ) (s t : ℕ → ℕ) → ((j : ℕ) → Edge m j → s j ≡ t j) → sum m s ≡ sum m t
@@ -187,12 +196,8 @@ module _ (n k : ℕ) (b b′ : Book) (C : List ℕ) (L : Ledger n k b C) (sized 
   unfolding committed
   committed-more = ap (λ (m : ℕ). sum m (done b′)) shared ∙ sum-one (b .shares) (done b) (done b′) i I done-more done-other
 
-  -- the next position of a share is held by it alone, so that no share has committed it
   not-yet : ¬ Has (next b i) C
-  not-yet h =
-      let q = L .from-share (next b i) h in
-      let e = share-once n k (let z = i-in in omega arith) (q .0) i (next b i) (passed-held L (q .0) (next b i) (q .1) (q .2) (q .3)) record { share = i-in; from = i-first; to = rw (L .sized, L .shared) at unfinished } in
-      absurd (let z : next b (q .0) ≡ next b i = ap (next b) e in let y = q .3 in omega arith)
+  not-yet = next-uncommitted L i record { share = i-in; from = i-first; to = rw (L .sized, L .shared) at unfinished }
 
   pub ledger-more : Ledger n k b′ (C ++ (next b i ∷ []))
   ledger-more = record {
@@ -246,9 +251,7 @@ module _ (n k : ℕ) (b : Book) (C : List ℕ) (L : Ledger n k b C) (some : 0 < 
       go (inl l) = lt-true _ _ l
       go (inr l) =
           let H : Holds n k j (next b j) = record { share = e; from = s; to = rw (L .sized, L .shared) at l } in
-          let q = L .from-share (next b j) (h (next b j) H) in
-          let w = share-once n k some (q .0) j (next b j) (passed-held L (q .0) (next b j) (q .1) (q .2) (q .3)) H in
-          absurd (let z : next b (q .0) ≡ next b j = ap (next b) w in let y = q .3 in omega arith)
+          absurd (next-uncommitted L j H (h (next b j) H))
 
   pub complete-shares : complete b ≡ true → (j : ℕ) → Edge k j → finished b j ≡ true
   unfolding complete
