@@ -77,12 +77,12 @@ pub record Left (d : List ℕ) (i m : ℕ) (e : List ℕ) (end x : ℕ) : Type 0
 
 pub left-more : (d : List ℕ) (i m : ℕ) (e : List ℕ) (end x : ℕ) → m < 10 ^ 20 → Left d i m e end x → 10 ≤ x → Left d i m (set e (end - 1) (48 + x % 10)) (end - 1) (x / 10)
 left-more d i m e end x h l s = record {
-      small = omega (arith, l .small);
-      place = at-end;
-      within = omega (arith, l .within);
-      long = length-set e (end - 1) (48 + x % 10) ∙ l .long;
-      rest = rw at-end (sym (over-last e i (decimal (x / 10)) (48 + x % 10) (omega (arith, one, l .place, l .within, l .long))) ∙ ap (λ (t : List ℕ). over e i t) (sym (decimal-more x (omega (arith, l .small)) s)) ∙ l .rest);
-    }
+  small = omega (arith, l .small);
+  place = at-end;
+  within = omega (arith, l .within);
+  long = length-set e (end - 1) (48 + x % 10) ∙ l .long;
+  rest = rw at-end (sym (over-last e i (decimal (x / 10)) (48 + x % 10) (omega (arith, one, l .place, l .within, l .long))) ∙ ap (λ (t : List ℕ). over e i t) (sym (decimal-more x (omega (arith, l .small)) s)) ∙ l .rest);
+}
   where
     one : length (decimal x) ≡ suc (length (decimal (x / 10)))
     one = length-more x (omega (arith, l .small)) s

@@ -62,9 +62,9 @@ wrote-byte d i b h = record { next = refl; bytes = sym (over-byte d i b h) }
 
 pub wrote-then : (d : List ℕ) (i : ℕ) (s t : List ℕ) (r : ℕ) (e : List ℕ) (r′ : ℕ) (e′ : List ℕ) → i + length s ≤ length d → Wrote d i s r e → Wrote e r t r′ e′ → Wrote d i (s ++ t) r′ e′
 wrote-then d i s t r e r′ e′ h a b = record {
-    next = simp length-append (omega (arith, a .next, b .next));
-    bytes = b .bytes ∙ rw (a .next, a .bytes) (sym (over-over d i s t h));
-  }
+  next = simp length-append (omega (arith, a .next, b .next));
+  bytes = b .bytes ∙ rw (a .next, a .bytes) (sym (over-over d i s t h));
+}
 
 -- where it fits, and where it does not
 pub wrote-put : (d : List ℕ) (i : ℕ) (s : List ℕ) (r : ℕ) (e : List ℕ) → i + length s ≤ length d → Wrote d i s r e → Put d i s r e
@@ -119,11 +119,11 @@ pub record Rest (d : List ℕ) (i : ℕ) (w e : List ℕ) (next k : ℕ) : Type 
 pub rest-more : (d : List ℕ) (i : ℕ) (w e : List ℕ) (next k next′ : ℕ) (e′ : List ℕ)
     → k < length w → Rest d i w e next k → Wrote e next (event-letters (getD w k 0)) next′ e′ → Rest d i w e′ next′ (k + 1)
 rest-more d i w e next k next′ e′ h l a = record {
-    place = omega (arith, a .next, n, l .place);
-    within = l .within;
-    long = ap length (a .bytes) ∙ length-over e next s room ∙ l .long;
-    rest = rw (a .next, a .bytes) (sym (over-over e next s t room)) ∙ ap (λ (u : List ℕ). over e next u) (sym (events-from w k h)) ∙ l .rest;
-  }
+  place = omega (arith, a .next, n, l .place);
+  within = l .within;
+  long = ap length (a .bytes) ∙ length-over e next s room ∙ l .long;
+  rest = rw (a .next, a .bytes) (sym (over-over e next s t room)) ∙ ap (λ (u : List ℕ). over e next u) (sym (events-from w k h)) ∙ l .rest;
+}
   where
     s : List ℕ
     s = event-letters (getD w k 0)
@@ -139,9 +139,9 @@ rest-more d i w e next k next′ e′ h l a = record {
 
 pub rest-end : (d : List ℕ) (i : ℕ) (w e : List ℕ) (next k : ℕ) → length w ≤ k → Rest d i w e next k → Wrote d i (events-letters w) next e
 rest-end d i w e next k h l = record {
-    next = omega (arith, ap length none, l .place);
-    bytes = sym (over-none e next) ∙ ap (λ (u : List ℕ). over e next u) (sym none) ∙ l .rest;
-  }
+  next = omega (arith, ap length none, l .place);
+  bytes = sym (over-none e next) ∙ ap (λ (u : List ℕ). over e next u) (sym none) ∙ l .rest;
+}
   where
     none : events-letters (drop k w) ≡ []
     none = events-over w k h
@@ -170,9 +170,9 @@ pub lettering-whole : (x b : ℕ) (w d : List ℕ) (n : ℕ) (e : List ℕ) → 
     → Wrote (set d 0 b) 1 (events-letters w) n e → Lettering (x ∷ w) d (Length n) e
 unfolding letters
 lettering-whole x b w d n e h f s a = record {
-    answer = rw (lt-true x 2 h, le-true (length (letters (x ∷ w))) (length d) (omega (arith, l))) (ap Length (size ∙ sym l));
-    room = rw (f, all .next) (all .bytes);
-  }
+  answer = rw (lt-true x 2 h, le-true (length (letters (x ∷ w))) (length d) (omega (arith, l))) (ap Length (size ∙ sym l));
+  room = rw (f, all .next) (all .bytes);
+}
   where
     l : length (letters (x ∷ w)) ≡ suc (length (events-letters w))
     l = letters-length x w h
