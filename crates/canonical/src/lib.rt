@@ -1,4 +1,6 @@
 // The operations that stand on the labelling: relabel, compare, symmetries, kept.
+mod events;
+
 pub enum Relabelling {
     Length(u16),
     Refused(u16),
