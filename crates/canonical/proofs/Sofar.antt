@@ -1,0 +1,123 @@
+-- The loops over the events: what is written so far, before the word of what is to come, is the whole word; and enough moves are left.
+use mathlib.Core.Path.{_≡_, refl, sym, ap, _∙_}
+use mathlib.Core.Logic.{_≢_, _⊎_, inl, inr}
+use mathlib.Core.Bool.{Bool, true, false}
+use mathlib.Core.List.{List, [], _∷_, _++_, append-assoc, append-nil}
+use Prim.Native.Nat.{ℕ, zero, suc, _+_, _≤_, _<_}
+use native.Mathlib.Omega.{arith}
+use native.Mathlib.Numerals.{add-one}
+use lib.Dec.{eqb}
+use lib.ListN.{length, getD, set, drop, length-append}
+use lib.Seq.{drop-cons, set-at}
+use Rattle.lists.specs.Lists.{at, Has}
+use Rattle.diagrams.specs.Check.{Accepts}
+use Rattle.pending.specs.Ring.{Ring}
+use Rattle.pending.proofs.Laws.{ring-top}
+use Rattle.labelling.specs.Labelling.{Move, move, Labelled, run, first, label, labels, wordOf}
+use Rattle.labelling.proofs.Along.{falls, size}
+use Rattle.canonical.specs.Scratch.{Holds, Underway, Did}
+use Rattle.canonical.specs.declared.events.Turn.{Turn}
+use Rattle.canonical.proofs.Underway.{accepts-maps}
+
+-- the items w before what is to come
+abbrev pub after : List ℕ → Labelled → Labelled
+after w q = record { marked = q .marked; word = w ++ q .word }
+
+-- the items w are written; the labelling stands at `marked` and `stack`, with `left` moves left
+pub record Sofar (s0 s1 : List ℕ) (root : ℕ) (la od nx pv : List ℕ) (c : ℕ) (w : List ℕ) : Type 0 where
+  pub marked : List ℕ
+  pub stack : List ℕ
+  pub left : ℕ
+  pub underway : Underway s0 s1 la od nx pv c marked stack
+  pub moves : length w + left ≡ suc (length s0)
+  pub enough : length stack + length s0 ≤ left + length marked
+  pub whole : after w (run (at s0) (at s1) left marked stack) ≡ label (length s0) (at s0) (at s1) root
+
+-- ---- the first event
+
+first-even : (b : Bool) (p q s : ℕ) → length (first b p q s .stack) ≡ length (first b p q s .marked)
+first-even true p q s = refl
+first-even false p q s = refl
+
+module _ (s0 s1 : List ℕ) (root : ℕ) (la od nx pv : List ℕ) (e : Turn) where
+  abbrev opening : Move
+  opening = first (eqb (at s0 root) root) root (at s0 root) (at s0 (at s0 root))
+
+  pub sofar-begin : Did s0 s1 la od nx pv opening e → Sofar s0 s1 root la od nx pv (e .given) (e .item ∷ [])
+  unfolding label
+  sofar-begin d = record {
+    marked = opening .marked;
+    stack = opening .stack;
+    left = length s0;
+    underway = d .leaves;
+    moves = omega arith;
+    enough = let i = first-even (eqb (at s0 root) root) root (at s0 root) (at s0 (at s0 root)) in omega arith;
+    whole = rw (d .item-is);
+  }
+
+-- ---- from one event to the next
+
+module _ (s0 s1 : List ℕ) (root : ℕ) (la od nx pv : List ℕ) (c : ℕ) (w : List ℕ) (S : Sofar s0 s1 root la od nx pv c w) where
+  -- the sentinel's link tells whether an edge is pending
+  pub sofar-pending : getD nx 0 0 ≢ 0 → (k : ℕ) × (r : List ℕ) × (S .stack ≡ k ∷ r)
+  sofar-pending n = go (S .stack) (ring-top nx pv (S .stack) (S .underway .ring))
+    where
+      go : (st : List ℕ) → getD nx 0 0 ≡ getD st 0 0 → (k : ℕ) × (r : List ℕ) × (st ≡ k ∷ r)
+      go [] e = absurd (n e)
+      go (k ∷ r) e = (k, r, refl)
+
+  pub sofar-empty : getD nx 0 0 ≡ 0 → S .stack ≡ []
+  sofar-empty z = go (S .stack) (ring-top nx pv (S .stack) (S .underway .ring)) (S .underway .ring .once .0)
+    where
+      go : (st : List ℕ) → getD nx 0 0 ≡ getD st 0 0 → ¬ Has 0 st → st ≡ []
+      go [] e m = refl
+      go (k ∷ r) e m = absurd (m (inl (sym z ∙ e)))
+
+  -- while an edge is pending, a move is left
+  move-left : (k : ℕ) (r : List ℕ) → S .stack ≡ k ∷ r → 0 < S .left
+  move-left k r e =
+      let i = size (length s0) (at s0) (at s1) (accepts-maps s0 s1 1 (S .underway .accepted)) (S .marked) (S .stack) (S .underway .along) in
+      let j = S .enough in
+      let l = ap length e in
+      omega arith
+
+  pub sofar-room : (k : ℕ) (r : List ℕ) → S .stack ≡ k ∷ r → length w ≤ length s0
+  sofar-room k r e = let i = move-left k r e in let j = S .moves in omega arith
+
+  pub sofar-event : (k : ℕ) (r : List ℕ) → S .stack ≡ k ∷ r → (la′ od′ nx′ pv′ : List ℕ) (e : Turn) → Did s0 s1 la′ od′ nx′ pv′ (move (at s0) (at s1) (S .marked) k r) e
+      → Sofar s0 s1 root la′ od′ nx′ pv′ (e .given) (w ++ (e .item ∷ []))
+  unfolding run
+  sofar-event k r q la′ od′ nx′ pv′ e d = go (S .left) refl (move-left k r q)
+    where
+      fall : suc (length (move (at s0) (at s1) (S .marked) k r .stack) + length (S .marked)) ≤ length (k ∷ r) + length (move (at s0) (at s1) (S .marked) k r .marked)
+      fall = falls (length s0) (at s0) (at s1) (accepts-maps s0 s1 1 (S .underway .accepted)) (S .marked) k r (rw q at (S .underway .along))
+
+      go : (m : ℕ) → S .left ≡ m → 0 < m → Sofar s0 s1 root la′ od′ nx′ pv′ (e .given) (w ++ (e .item ∷ []))
+      go zero i h = absurd (omega arith)
+      go (suc m) i h = record {
+        marked = move (at s0) (at s1) (S .marked) k r .marked;
+        stack = move (at s0) (at s1) (S .marked) k r .stack;
+        left = m;
+        underway = d .leaves;
+        moves = simp length-append (let j = S .moves in omega arith);
+        enough = let j = S .enough in let l = ap length q in let f = fall in omega arith;
+        whole = rw (d .item-is, append-assoc) (rw (i, q) at (S .whole));
+      }
+
+  -- ---- the end
+
+  pub sofar-word : (rest : List ℕ) × (wordOf s0 s1 root ≡ w ++ rest)
+  unfolding wordOf
+  sofar-word = (run (at s0) (at s1) (S .left) (S .marked) (S .stack) .word, ap (λ (q : Labelled). q .word) (sym (S .whole)))
+
+  run-end : (m : ℕ) (o : List ℕ) → run (at s0) (at s1) m o [] ≡ record { marked = o; word = [] }
+  unfolding run
+  run-end zero o = refl
+  run-end (suc m) o = refl
+
+  ended : S .stack ≡ [] → label (length s0) (at s0) (at s1) root ≡ record { marked = S .marked; word = w }
+  ended e = sym (S .whole) ∙ rw (e, run-end (S .left) (S .marked), append-nil)
+
+  pub sofar-end : S .stack ≡ [] → (wordOf s0 s1 root ≡ w) × (labels s0 s1 root ≡ S .marked)
+  unfolding wordOf labels
+  sofar-end e = (ap (λ (q : Labelled). q .word) (ended e), ap (λ (q : Labelled). q .marked) (ended e))
