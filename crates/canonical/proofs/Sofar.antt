@@ -7,17 +7,18 @@ use Prim.Native.Nat.{ℕ, zero, suc, _+_, _≤_, _<_}
 use native.Mathlib.Omega.{arith}
 use native.Mathlib.Numerals.{add-one}
 use lib.Dec.{eqb}
-use lib.ListN.{length, getD, set, drop, length-append}
-use lib.Seq.{drop-cons, set-at}
+use lib.ListN.{length, getD, set, drop, length-append, length-drop}
+use lib.Seq.{drop-cons, set-at, drop-set-lt}
 use Rattle.lists.specs.Lists.{at, Has}
+use Rattle.lists.specs.Ranges.{Edge}
 use Rattle.diagrams.specs.Check.{Accepts}
-use Rattle.pending.specs.Ring.{Ring}
 use Rattle.pending.proofs.Laws.{ring-top}
-use Rattle.labelling.specs.Labelling.{Move, move, Labelled, run, first, label, labels, wordOf}
+use Rattle.labelling.specs.Labelling.{move, Labelled, run, first, label, edge, labels, wordOf}
 use Rattle.labelling.proofs.Along.{falls, size}
-use Rattle.canonical.specs.Scratch.{Holds, Underway, Did}
+use Rattle.labelling.proofs.Labels.{Done, done, whole, edge-n}
+use Rattle.canonical.specs.Scratch.{Underway, opening, Did, Wrote}
 use Rattle.canonical.specs.declared.events.Turn.{Turn}
-use Rattle.canonical.proofs.Underway.{accepts-maps}
+use Rattle.canonical.proofs.Underway.{accepts-maps, accepts-diagram}
 
 -- the items w before what is to come
 abbrev pub after : List ℕ → Labelled → Labelled
@@ -39,21 +40,17 @@ first-even : (b : Bool) (p q s : ℕ) → length (first b p q s .stack) ≡ leng
 first-even true p q s = refl
 first-even false p q s = refl
 
-module _ (s0 s1 : List ℕ) (root : ℕ) (la od nx pv : List ℕ) (e : Turn) where
-  abbrev opening : Move
-  opening = first (eqb (at s0 root) root) root (at s0 root) (at s0 (at s0 root))
-
-  pub sofar-begin : Did s0 s1 la od nx pv opening e → Sofar s0 s1 root la od nx pv (e .given) (e .item ∷ [])
-  unfolding label
-  sofar-begin d = record {
-    marked = opening .marked;
-    stack = opening .stack;
-    left = length s0;
-    underway = d .leaves;
-    moves = omega arith;
-    enough = let i = first-even (eqb (at s0 root) root) root (at s0 root) (at s0 (at s0 root)) in omega arith;
-    whole = rw (d .item-is);
-  }
+pub sofar-begin : (s0 s1 : List ℕ) (root : ℕ) (la od nx pv : List ℕ) (e : Turn) → Did s0 s1 la od nx pv (opening s0 root) e → Sofar s0 s1 root la od nx pv (e .given) (e .item ∷ [])
+unfolding label
+sofar-begin s0 s1 root la od nx pv e d = record {
+  marked = opening s0 root .marked;
+  stack = opening s0 root .stack;
+  left = length s0;
+  underway = d .leaves;
+  moves = omega arith;
+  enough = let i = first-even (eqb (at s0 root) root) root (at s0 root) (at s0 (at s0 root)) in omega arith;
+  whole = rw (d .item-is);
+}
 
 -- ---- from one event to the next
 
@@ -121,3 +118,89 @@ module _ (s0 s1 : List ℕ) (root : ℕ) (la od nx pv : List ℕ) (c : ℕ) (w :
   pub sofar-end : S .stack ≡ [] → (wordOf s0 s1 root ≡ w) × (labels s0 s1 root ≡ S .marked)
   unfolding wordOf labels
   sofar-end e = (ap (λ (q : Labelled). q .word) (ended e), ap (λ (q : Labelled). q .marked) (ended e))
+
+-- every edge is labelled, and every label is an edge's
+module _ (s0 s1 : List ℕ) (root : ℕ) (a : Accepts s0 s1 root) where
+  labels-done : Done (length s0) (at s0) (at s1) root (labels s0 s1 root)
+  unfolding labels
+  labels-done = done (length s0) (at s0) (at s1) (accepts-maps s0 s1 root a) root (a .root-in)
+
+  pub labels-whole : length (labels s0 s1 root) ≡ length s0
+  labels-whole = whole (length s0) (at s0) (at s1) (accepts-diagram s0 s1 root a) root (a .root-in) (labels s0 s1 root) labels-done
+
+  pub labels-edges : (j : ℕ) → Edge (length s0) j → Edge (length s0) (edge (labels s0 s1 root) j)
+  labels-edges = edge-n (length s0) (at s0) (at s1) (accepts-diagram s0 s1 root a) root (a .root-in) (labels s0 s1 root) labels-done
+
+-- ---- the items in a list: its first m places, before what it held
+
+pub record Filled (s0 s1 : List ℕ) (root : ℕ) (la od nx pv : List ℕ) (c : ℕ) (a b : List ℕ) (m : ℕ) : Type 0 where
+  pub items : List ℕ
+  pub sofar : Sofar s0 s1 root la od nx pv c items
+  pub counted : length items ≡ m
+  pub written : b ≡ items ++ drop m a
+
+-- the first item stands in the list already when the loop begins
+pub filled-begin : (s0 s1 : List ℕ) (root : ℕ) (la od nx pv : List ℕ) (e : Turn) (a : List ℕ) → 0 < length a → Did s0 s1 la od nx pv (opening s0 root) e
+    → Filled s0 s1 root la od nx pv (e .given) (set a 0 (e .item)) (set a 0 (e .item)) 1
+filled-begin s0 s1 root la od nx pv e a h d = record { items = e .item ∷ []; sofar = sofar-begin s0 s1 root la od nx pv e d; counted = refl; written = go a h }
+  where
+    go : (a : List ℕ) → 0 < length a → set a 0 (e .item) ≡ e .item ∷ drop 1 (set a 0 (e .item))
+    go [] h = absurd (omega arith)
+    go (x ∷ a) h = refl
+
+module _ (s0 s1 : List ℕ) (root : ℕ) (la od nx pv : List ℕ) (c : ℕ) (a b : List ℕ) (m : ℕ) (F : Filled s0 s1 root la od nx pv c a b m) where
+  pub filled-few : m ≤ suc (length s0)
+  filled-few = let i = F .sofar .moves in let j = F .counted in omega arith
+
+  pub filled-length : length s0 < length a → length b ≡ length a
+  filled-length h = rw (F .written) (simp (length-append, length-drop) (let i = filled-few in let j = F .counted in omega arith))
+
+  -- while an edge is pending: the event's state, and room for its item
+  pub filled-event : getD nx 0 0 ≢ 0 → (o : List ℕ) × (k : ℕ) × (r : List ℕ) × Underway s0 s1 la od nx pv c o (k ∷ r)
+  filled-event n = let (k, r, q) = sofar-pending s0 s1 root la od nx pv c (F .items) (F .sofar) n in (F .sofar .marked, k, r, rw q at (F .sofar .underway))
+
+  pub filled-room : getD nx 0 0 ≢ 0 → m ≤ length s0
+  filled-room n =
+      let (k, r, q) = sofar-pending s0 s1 root la od nx pv c (F .items) (F .sofar) n in
+      let i = sofar-room s0 s1 root la od nx pv c (F .items) (F .sofar) k r q in
+      let j = F .counted in
+      omega arith
+
+  pub filled-more : getD nx 0 0 ≢ 0 → length s0 < length a → (la′ od′ nx′ pv′ : List ℕ) (e : Turn)
+      → ((o : List ℕ) (k : ℕ) (r : List ℕ) → Underway s0 s1 la od nx pv c o (k ∷ r) → Did s0 s1 la′ od′ nx′ pv′ (move (at s0) (at s1) o k r) e)
+      → Filled s0 s1 root la′ od′ nx′ pv′ (e .given) a (set b m (e .item)) (m + 1)
+  filled-more n h la′ od′ nx′ pv′ e d =
+      let (k, r, q) = sofar-pending s0 s1 root la od nx pv c (F .items) (F .sofar) n in
+      let i = filled-room n in
+      record {
+        items = F .items ++ (e .item ∷ []);
+        sofar = sofar-event s0 s1 root la od nx pv c (F .items) (F .sofar) k r q la′ od′ nx′ pv′ e (d (F .sofar .marked) k r (rw q at (F .sofar .underway)));
+        counted = simp length-append (let j = F .counted in omega arith);
+        written = rw (F .written, drop-cons a m 0 (omega arith), set-at (F .items) (getD a m 0) (drop (suc m) a) (e .item) m (F .counted), add-one, append-assoc);
+      }
+
+  pub filled-end : Accepts s0 s1 root → getD nx 0 0 ≡ 0 → Wrote s0 s1 root la od nx pv a b m
+  filled-end A z = record {
+    length-is = rw (end .0) (sym (F .counted));
+    word-is = rw (end .0) (F .written);
+    held = rw (end .1, size-is) (F .sofar .underway .holds);
+    none-pending = rw empty at (F .sofar .underway .ring);
+  }
+    where
+      empty : F .sofar .stack ≡ []
+      empty = sofar-empty s0 s1 root la od nx pv c (F .items) (F .sofar) z
+
+      end : (wordOf s0 s1 root ≡ F .items) × (labels s0 s1 root ≡ F .sofar .marked)
+      end = sofar-end s0 s1 root la od nx pv c (F .items) (F .sofar) empty
+
+      size-is : length s0 ≡ c
+      size-is = sym (F .sofar .underway .holds .given-is ∙ ap length (sym (end .1)) ∙ labels-whole s0 s1 root A)
+
+pub wrote-first : (s0 s1 : List ℕ) (root : ℕ) (la od nx pv a b : List ℕ) (v m : ℕ) → Wrote s0 s1 root la od nx pv (set a 0 v) b m → Wrote s0 s1 root la od nx pv a b m
+unfolding wordOf label
+wrote-first s0 s1 root la od nx pv a b v m w = record {
+  length-is = w .length-is;
+  word-is = rw (drop-set-lt m a 0 v (let e = w .length-is in omega arith)) at (w .word-is);
+  held = w .held;
+  none-pending = w .none-pending;
+}

@@ -4,7 +4,6 @@ use mathlib.Core.Logic.{_≢_, _⊎_, inl, inr, ⊎-elim}
 use mathlib.Core.List.{List, [], _∷_}
 use Prim.Native.Nat.{ℕ, zero, suc, _+_, _≤_, _<_}
 use native.Mathlib.Omega.{arith}
-use lib.Dec.{eqb}
 use lib.ListN.{length, getD}
 use Rattle.lists.specs.Lists.{at, Has, find, cut}
 use Rattle.lists.specs.Ranges.{Edge}
@@ -13,11 +12,12 @@ use Rattle.diagrams.specs.Diagram.{Maps, Diagram}
 use Rattle.diagrams.specs.Check.{Accepts}
 use Rattle.diagrams.proofs.Checks.{accepts-rooted}
 use Rattle.pending.specs.Ring.{Ring}
-use Rattle.labelling.specs.Labelling.{Move, move, first, lab}
+use Rattle.labelling.specs.Labelling.{Move, move}
 use Rattle.labelling.proofs.Along.{Inv, View, is-W, is-J, is-B, is-F, view, next, size}
-use Rattle.labelling.proofs.Labels.{lab-in, inv-U, inv-T}
+use Rattle.labelling.proofs.Labels.{inv-U, inv-T}
 use Rattle.labelling.proofs.Moves.{move-W, move-J, move-B, move-F}
-use Rattle.canonical.specs.Scratch.{Holds, Underway, Did, Ready}
+use Rattle.canonical.specs.Scratch.{Holds, Underway, opening, Did}
+use Rattle.canonical.proofs.Arrays.{lab-none, lab-zero}
 
 -- ---- accepted diagrams
 
@@ -42,15 +42,6 @@ accepts-rooting s0 s1 r x a e = record {
 
 pub accepts-small : (s0 s1 : List ℕ) (r x : ℕ) → Accepts s0 s1 r → Edge (length s0) x → Edge 1024 x
 accepts-small s0 s1 r x a e = let i = a .size in omega arith
-
--- ---- 0 is no label
-
-pub lab-none : (o : List ℕ) (x : ℕ) → ¬ Has x o → lab o x ≡ 0
-lab-none [] x n = refl
-lab-none (y ∷ o) x n = rw (eqb-ne x y (λ e. n (inl e))) (lab-none o x (λ h. n (inr h)))
-
-pub lab-zero : (o : List ℕ) (x : ℕ) → lab o x ≡ 0 → ¬ Has x o
-lab-zero o x e h = let i = lab-in o x h in omega arith
 
 -- ---- the event of the popped edge k
 
@@ -137,14 +128,14 @@ module _ (s0 s1 la od nx pv : List ℕ) (c : ℕ) (o : List ℕ) (k : ℕ) (r : 
 -- ---- the first event
 
 module _ (s0 s1 : List ℕ) (r : ℕ) (a : Accepts s0 s1 r) where
-  start : (v : Move) (la od nx pv : List ℕ) (x c : ℕ) → first (eqb (at s0 r) r) r (at s0 r) (at s0 (at s0 r)) ≡ v → Inv (length s0) (at s0) (at s1) (v .marked) (v .stack)
-      → x ≡ v .item → Holds la od c (v .marked) → Ring nx pv (v .stack) → Did s0 s1 la od nx pv (first (eqb (at s0 r) r) r (at s0 r) (at s0 (at s0 r))) (record { item = x; given = c })
+  start : (v : Move) (la od nx pv : List ℕ) (x c : ℕ) → opening s0 r ≡ v → Inv (length s0) (at s0) (at s1) (v .marked) (v .stack)
+      → x ≡ v .item → Holds la od c (v .marked) → Ring nx pv (v .stack) → Did s0 s1 la od nx pv (opening s0 r) (record { item = x; given = c })
   start v la od nx pv x c e i j h q =
       let s = a .size in
       record { item-is = rw e j; leaves = record { accepted = accepts-rooting s0 s1 r 1 a (omega arith); along = rw e i; holds = rw e h; ring = rw e q } }
 
   pub did-U : (la od nx pv : List ℕ) (c : ℕ) → at s0 r ≡ r → Holds la od c (r ∷ []) → Ring nx pv (r ∷ [])
-      → Did s0 s1 la od nx pv (first (eqb (at s0 r) r) r (at s0 r) (at s0 (at s0 r))) (record { item = 0; given = c })
+      → Did s0 s1 la od nx pv (opening s0 r) (record { item = 0; given = c })
   did-U la od nx pv c e h q = start (record { item = 0; marked = r ∷ []; stack = r ∷ [] }) la od nx pv 0 c (rw (e, eqb-same r)) (inv-U (length s0) (at s0) (at s1) (accepts-maps s0 s1 r a) r (a .root-in) e) refl h q
 
   begun : at s0 r ≢ r → Inv (length s0) (at s0) (at s1) (at s0 (at s0 r) ∷ at s0 r ∷ r ∷ []) (at s0 (at s0 r) ∷ at s0 r ∷ r ∷ [])
@@ -154,5 +145,5 @@ module _ (s0 s1 : List ℕ) (r : ℕ) (a : Accepts s0 s1 r) where
   root-new e = (begun e .stacked .1 .0, begun e .stacked .0)
 
   pub did-T : (la od nx pv : List ℕ) (c : ℕ) → at s0 r ≢ r → Holds la od c (at s0 (at s0 r) ∷ at s0 r ∷ r ∷ []) → Ring nx pv (at s0 (at s0 r) ∷ at s0 r ∷ r ∷ [])
-      → Did s0 s1 la od nx pv (first (eqb (at s0 r) r) r (at s0 r) (at s0 (at s0 r))) (record { item = 1; given = c })
+      → Did s0 s1 la od nx pv (opening s0 r) (record { item = 1; given = c })
   did-T la od nx pv c e h q = start (record { item = 1; marked = at s0 (at s0 r) ∷ at s0 r ∷ r ∷ []; stack = at s0 (at s0 r) ∷ at s0 r ∷ r ∷ [] }) la od nx pv 1 c (rw (eqb-ne (at s0 r) r e)) (begun e) refl h q

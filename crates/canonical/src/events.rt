@@ -4,14 +4,13 @@ use lists::wide;
 ghost use mathlib.Core.Path.{_≡_};
 ghost use mathlib.Core.List.{List, [], _∷_};
 ghost use Prim.Native.Nat.{ℕ, suc, _+_, _<_, _≤_};
-ghost use lib.Dec.{eqb};
 ghost use lib.ListN.{length};
 ghost use Rattle.lists.specs.Lists.{at, Has, find, cut};
 ghost use Rattle.lists.specs.Ranges.{Edge};
 ghost use Rattle.diagrams.specs.Check.{Accepts};
 ghost use Rattle.pending.specs.Ring.{Ring};
-ghost use Rattle.labelling.specs.Labelling.{move, first};
-ghost use Rattle.canonical.specs.Scratch.{Holds, Underway, Did, Ready};
+ghost use Rattle.labelling.specs.Labelling.{move};
+ghost use Rattle.canonical.specs.Scratch.{Holds, Underway, opening, Did, Ready};
 
 // An event's item, and how many labels are given after it.
 pub struct Turn {
@@ -20,7 +19,7 @@ pub struct Turn {
 }
 
 // The next edge round x's vertex.
-fn follow(s: &[u16], x: u16) -> u16
+pub fn follow(s: &[u16], x: u16) -> u16
     requires { ⌜ Edge (length (now s)) x ⌝ }
     ensures { λ r. ⌜ r ≡ at (now (s .entry)) x ⌝ }
 {
@@ -72,8 +71,7 @@ pub fn begin(s0: &[u16], labels: &mut [u16; 1025], order: &mut [u16; 1025], next
     requires { ⌜ ((s1 : List ℕ) × Accepts (now s0) s1 root) ⌝ }
     requires { ⌜ Ready (now labels) (now order) (now next) (now prev) ⌝ }
     ensures { λ e. ⌜ ((s1 : List ℕ) → Accepts (now (s0 .entry)) s1 root
-        → Did (now (s0 .entry)) s1 (now (labels .exit)) (now (order .exit)) (now (next .exit)) (now (prev .exit))
-        (first (eqb (at (now (s0 .entry)) root) root) root (at (now (s0 .entry)) root) (at (now (s0 .entry)) (at (now (s0 .entry)) root))) e) ⌝ }
+        → Did (now (s0 .entry)) s1 (now (labels .exit)) (now (order .exit)) (now (next .exit)) (now (prev .exit)) (opening (now (s0 .entry)) root) e) ⌝ }
 {
     let q = follow(s0, root);
     pending::push(next, prev, root);

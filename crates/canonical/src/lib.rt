@@ -1,5 +1,6 @@
 // The operations that stand on the labelling: relabel, compare, symmetries, kept.
 mod events;
+mod writing;
 
 pub enum Relabelling {
     Length(u16),

@@ -1,7 +1,7 @@
 use borrow.Author.Needs.{needs}
 use mathlib.Core.Path.{_≡_, sym, ap, _∙_}
 use lib.ListN.{getD}
-use Rattle.canonical.proofs.Arrays.{at-place}
+use Rattle.diagrams.proofs.Entries.{at-place}
 use Rattle.canonical.proofs.events.follow.Statement.{statement}
 use Rattle.canonical.proofs.events.follow.Tie as tie
 use Rattle.canonical.proofs.events.follow.Reads as reads
