@@ -2,19 +2,20 @@
 use mathlib.Core.Path.{_≡_, refl, sym, ap, _∙_}
 use mathlib.Core.Logic.{_≢_, _⊎_, inl, inr}
 use mathlib.Core.List.{List, [], _∷_, _++_, append-assoc}
-use Prim.Native.Nat.{ℕ, suc, _+_, _-_, _≤_, _<_}
+use Prim.Native.Nat.{ℕ, zero, suc, _+_, _-_, _≤_, _<_}
 use native.Mathlib.Omega.{arith}
 use native.Mathlib.Numerals.{add-one}
 use lib.Dec.{eqb}
-use lib.ListN.{length, getD, set, drop, length-set, length-append, length-drop}
+use lib.ListN.{length, getD, set, drop, replicate, length-set, length-append, length-drop, length-replicate}
 use lib.Seq.{getD-set-same, getD-set-other, drop-cons, set-at}
 use Rattle.lists.specs.Lists.{at, listed, Has, Apart}
 use Rattle.lists.specs.Ranges.{Edge}
 use Rattle.lists.proofs.Tests.{same?, eqb-same, eqb-ne}
 use Rattle.lists.proofs.Lists.{length-listed}
+use Rattle.pending.proofs.Laws.{ring-empty}
 use Rattle.labelling.specs.Labelling.{lab, edge, relabel}
 use Rattle.labelling.proofs.Labels.{lab-in}
-use Rattle.canonical.specs.Scratch.{Holds, HoldsSome}
+use Rattle.canonical.specs.Scratch.{Holds, HoldsSome, Ready}
 
 -- ---- 0 is no label
 
@@ -24,6 +25,19 @@ lab-none (y ∷ o) x n = rw (eqb-ne x y (λ e. n (inl e))) (lab-none o x (λ h. 
 
 pub lab-zero : (o : List ℕ) (x : ℕ) → lab o x ≡ 0 → ¬ Has x o
 lab-zero o x e h = let i = lab-in o x h in omega arith
+
+-- ---- arrays of zeros
+
+zeros-at : (n x : ℕ) → _≡_ {A = ℕ} (getD (replicate n 0) x 0) 0
+zeros-at zero x = refl
+zeros-at (suc n) zero = refl
+zeros-at (suc n) (suc x) = zeros-at n x
+
+pub zeros-ready : Ready (replicate 1025 0) (replicate 1025 0) (replicate 1025 0) (replicate 1025 0)
+zeros-ready = record {
+  unlabelled = record { labels-long = length-replicate {A = ℕ} 1025 0; order-long = length-replicate {A = ℕ} 1025 0; given-is = refl; label-of = zeros-at 1025; edge-of = λ j e. absurd (omega arith) };
+  empty = ring-empty;
+}
 
 -- ---- giving the next label
 

@@ -182,6 +182,7 @@ module _ (s0 s1 : List ℕ) (root : ℕ) (la od nx pv : List ℕ) (c : ℕ) (a b
   pub filled-end : Accepts s0 s1 root → getD nx 0 0 ≡ 0 → Wrote s0 s1 root la od nx pv a b m
   filled-end A z = record {
     length-is = rw (end .0) (sym (F .counted));
+    few = filled-few;
     word-is = rw (end .0) (F .written);
     held = rw (end .1, size-is) (F .sofar .underway .holds);
     none-pending = rw empty at (F .sofar .underway .ring);
@@ -200,6 +201,7 @@ pub wrote-first : (s0 s1 : List ℕ) (root : ℕ) (la od nx pv a b : List ℕ) (
 unfolding wordOf label
 wrote-first s0 s1 root la od nx pv a b v m w = record {
   length-is = w .length-is;
+  few = w .few;
   word-is = rw (drop-set-lt m a 0 v (let e = w .length-is in omega arith)) at (w .word-is);
   held = w .held;
   none-pending = w .none-pending;

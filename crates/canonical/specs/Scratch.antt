@@ -10,7 +10,7 @@
 --   Wrote ..                         a whole labelling: its word written, its labels held
 use mathlib.Core.Path.{_≡_}
 use mathlib.Core.List.{List, [], _++_}
-use Prim.Native.Nat.{ℕ, _≤_, _<_}
+use Prim.Native.Nat.{ℕ, suc, _≤_, _<_}
 use lib.Dec.{eqb}
 use lib.ListN.{length, getD, drop}
 use Rattle.lists.specs.Lists.{at, Has, Apart}
@@ -58,6 +58,7 @@ pub record Ready (la od nx pv : List ℕ) : Type 0 where
 -- the word is written before what the list held, and the arrays hold the whole labelling
 pub record Wrote (s0 s1 : List ℕ) (root : ℕ) (la od nx pv a b : List ℕ) (m : ℕ) : Type 0 where
   pub length-is : m ≡ length (wordOf s0 s1 root)
+  pub few : m ≤ suc (length s0)
   pub word-is : b ≡ wordOf s0 s1 root ++ drop m a
   pub held : Holds la od (length s0) (labels s0 s1 root)
   pub none-pending : Ring nx pv []
