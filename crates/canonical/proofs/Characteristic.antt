@@ -9,7 +9,7 @@ use Rattle.lists.specs.Lists.{at, listed}
 use Rattle.lists.proofs.Lists.{length-listed}
 use Rattle.diagrams.specs.Check.{Accepts}
 use Rattle.labelling.specs.Labelling.{relabel, labels, characteristic}
-use Rattle.canonical.specs.Scratch.{Holds, Wrote}
+use Rattle.labelled.specs.Scratch.{Holds, Wrote}
 use Rattle.canonical.specs.Promises.{Short, Written, Relabelled}
 use Rattle.canonical.specs.declared.Relabelling.the-variants as relabelling
 

@@ -1,4 +1,1 @@
-pub mod Arrays
-pub mod Underway
-pub mod Sofar
 pub mod Characteristic

@@ -1,10 +1,8 @@
 // The operations that stand on the labelling: relabel, compare, symmetries, kept.
-mod events;
-mod writing;
 
 use diagrams::Verdict;
-use writing::write_list;
-use writing::write_word;
+use labelled::writing::write_list;
+use labelled::writing::write_word;
 ghost use Prim.Native.Nat.{ℕ};
 ghost use Rattle.diagrams.specs.Check.{Accepts};
 ghost use Rattle.canonical.specs.Promises.{Relabelled};

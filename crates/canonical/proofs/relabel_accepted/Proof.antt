@@ -4,14 +4,14 @@ use mathlib.Core.Logic.{inl, inr}
 use native.Mathlib.Omega.{arith}
 use denote.Ref.{now}
 use Rattle.canonical.proofs.Characteristic.{not-short, held-white, relabel-written}
-use Rattle.canonical.proofs.Sofar.{labels-whole, labels-edges}
-use Rattle.canonical.proofs.Arrays.{zeros-ready}
+use Rattle.labelled.proofs.Sofar.{labels-whole, labels-edges}
+use Rattle.labelled.proofs.Arrays.{zeros-ready}
 use Rattle.canonical.proofs.relabel_accepted.Statement.{statement}
 use Rattle.canonical.proofs.relabel_accepted.Tie as tie
 use Rattle.canonical.proofs.relabel_accepted.Reads as reads
 use Rattle.canonical.proofs.relabel_accepted.Lts as lts
-use Rattle.canonical.proofs.writing.write_list.Reads as write-list-reads
-use Rattle.canonical.proofs.writing.write_word.Reads as write-word-reads
+use Rattle.labelled.proofs.writing.write_list.Reads as write-list-reads
+use Rattle.labelled.proofs.writing.write_word.Reads as write-word-reads
 
 -- src/lib.rt:41:9
 returns : tie.Need-returns

@@ -4,13 +4,13 @@ use native.Mathlib.Omega.{arith}
 use denote.Ref.{now}
 use lib.ListN.{length, length-set}
 use mathlib.Core.Path.{_∙_}
-use Rattle.canonical.proofs.Sofar.{Filled, filled-begin, filled-few, filled-length, filled-event, filled-room, filled-more, filled-end, wrote-first}
-use Rattle.canonical.proofs.writing.write_word.Statement.{statement}
-use Rattle.canonical.proofs.writing.write_word.Tie as tie
-use Rattle.canonical.proofs.writing.write_word.Reads as reads
-use Rattle.canonical.proofs.writing.write_word.Lts as lts
-use Rattle.canonical.proofs.events.begin.Reads as begin-reads
-use Rattle.canonical.proofs.events.event.Reads as event-reads
+use Rattle.labelled.proofs.Sofar.{Filled, filled-begin, filled-few, filled-length, filled-event, filled-room, filled-more, filled-end, wrote-first}
+use Rattle.labelled.proofs.writing.write_word.Statement.{statement}
+use Rattle.labelled.proofs.writing.write_word.Tie as tie
+use Rattle.labelled.proofs.writing.write_word.Reads as reads
+use Rattle.labelled.proofs.writing.write_word.Lts as lts
+use Rattle.labelled.proofs.events.begin.Reads as begin-reads
+use Rattle.labelled.proofs.events.event.Reads as event-reads
 
 abbrev Inv-loop : tie.InvT-loop
 Inv-loop s0 s1 labels₀ order₀ next₀ prev₀ root word₀ given₀ len₀ labels order next prev word given len = Filled s0 s1 root labels order next prev given word₀ word len

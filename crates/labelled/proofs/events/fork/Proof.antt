@@ -1,10 +1,10 @@
 use borrow.Author.Needs.{needs}
 use mathlib.Core.List.{_∷_}
-use Rattle.canonical.proofs.events.fork.Statement.{statement}
-use Rattle.canonical.proofs.events.fork.Tie as tie
-use Rattle.canonical.proofs.events.fork.Reads as reads
-use Rattle.canonical.proofs.events.fork.Lts as lts
-use Rattle.canonical.proofs.events.give.Reads as give-reads
+use Rattle.labelled.proofs.events.fork.Statement.{statement}
+use Rattle.labelled.proofs.events.fork.Tie as tie
+use Rattle.labelled.proofs.events.fork.Reads as reads
+use Rattle.labelled.proofs.events.fork.Lts as lts
+use Rattle.labelled.proofs.events.give.Reads as give-reads
 use Rattle.pending.proofs.push.Reads as push-reads
 
 -- src/events.rt:62:9

@@ -6,18 +6,18 @@ use Prim.Native.Nat.{ℕ}
 use native.Mathlib.Omega.{arith}
 use lib.ListN.{length}
 use denote.Ref.{now}
-use Rattle.canonical.proofs.Underway.{accepts-small, root-new, did-U, did-T}
+use Rattle.labelled.proofs.Underway.{accepts-small, root-new, did-U, did-T}
 use Rattle.pending.specs.Ring.{Ring}
 use Rattle.diagrams.specs.Check.{Accepts}
 use Rattle.lists.specs.Ranges.{Edge}
 use Rattle.lists.specs.Lists.{at, Has}
-use Rattle.canonical.proofs.events.begin.Statement.{statement}
-use Rattle.canonical.proofs.events.begin.Tie as tie
-use Rattle.canonical.proofs.events.begin.Reads as reads
-use Rattle.canonical.proofs.events.begin.Lts as lts
-use Rattle.canonical.proofs.events.follow.Reads as follow-reads
-use Rattle.canonical.proofs.events.fork.Reads as fork-reads
-use Rattle.canonical.proofs.events.give.Reads as give-reads
+use Rattle.labelled.proofs.events.begin.Statement.{statement}
+use Rattle.labelled.proofs.events.begin.Tie as tie
+use Rattle.labelled.proofs.events.begin.Reads as reads
+use Rattle.labelled.proofs.events.begin.Lts as lts
+use Rattle.labelled.proofs.events.follow.Reads as follow-reads
+use Rattle.labelled.proofs.events.fork.Reads as fork-reads
+use Rattle.labelled.proofs.events.give.Reads as give-reads
 use Rattle.pending.proofs.push.Reads as push-reads
 
 moved : (c : tie.Else1) → at (now (c .before .before .before .before .before .before .args .s0)) (c .before .before .before .before .before .before .args .root) ≢ c .before .before .before .before .before .before .args .root

@@ -15,7 +15,7 @@ use Rattle.lists.proofs.Lists.{length-listed}
 use Rattle.pending.proofs.Laws.{ring-empty}
 use Rattle.labelling.specs.Labelling.{lab, edge, relabel}
 use Rattle.labelling.proofs.Labels.{lab-in}
-use Rattle.canonical.specs.Scratch.{Holds, HoldsSome, Ready}
+use Rattle.labelled.specs.Scratch.{Holds, HoldsSome, Ready}
 
 -- ---- 0 is no label
 

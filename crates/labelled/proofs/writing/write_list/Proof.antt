@@ -5,16 +5,16 @@ use Prim.Native.Nat.{ℕ, suc, _+_, _-_, _≤_, _<_}
 use native.Mathlib.Omega.{arith}
 use denote.Ref.{now}
 use lib.ListN.{length, getD, drop}
-use Rattle.canonical.proofs.Arrays.{seen, listed-more, listed-length}
-use Rattle.canonical.specs.Scratch.{Holds}
+use Rattle.labelled.proofs.Arrays.{seen, listed-more, listed-length}
+use Rattle.labelled.specs.Scratch.{Holds}
 use Rattle.labelling.specs.Labelling.{relabel}
 use Rattle.lists.specs.Ranges.{Edge}
 use Rattle.lists.specs.Lists.{at, listed}
-use Rattle.canonical.proofs.writing.write_list.Statement.{statement}
-use Rattle.canonical.proofs.writing.write_list.Tie as tie
-use Rattle.canonical.proofs.writing.write_list.Reads as reads
-use Rattle.canonical.proofs.writing.write_list.Lts as lts
-use Rattle.canonical.proofs.events.follow.Reads as follow-reads
+use Rattle.labelled.proofs.writing.write_list.Statement.{statement}
+use Rattle.labelled.proofs.writing.write_list.Tie as tie
+use Rattle.labelled.proofs.writing.write_list.Reads as reads
+use Rattle.labelled.proofs.writing.write_list.Lts as lts
+use Rattle.labelled.proofs.events.follow.Reads as follow-reads
 use Rattle.lists.proofs.wide.Reads as wide-reads
 
 abbrev Inv-loop : tie.InvT-loop

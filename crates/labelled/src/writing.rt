@@ -11,7 +11,7 @@ ghost use Rattle.lists.specs.Lists.{at, listed};
 ghost use Rattle.lists.specs.Ranges.{Edge};
 ghost use Rattle.diagrams.specs.Check.{Accepts, Entries};
 ghost use Rattle.labelling.specs.Labelling.{edge, relabel, wordOf};
-ghost use Rattle.canonical.specs.Scratch.{Holds, HoldsSome, Ready, Wrote};
+ghost use Rattle.labelled.specs.Scratch.{Holds, HoldsSome, Ready, Wrote};
 
 // Labels the whole diagram from its root and writes the word. Returns the word's length.
 pub fn write_word(

@@ -1,10 +1,10 @@
 use borrow.Author.Needs.{needs}
 use mathlib.Core.Path.{_≡_, refl}
-use Rattle.canonical.proofs.Arrays.{holds-give}
-use Rattle.canonical.proofs.events.give.Statement.{statement}
-use Rattle.canonical.proofs.events.give.Tie as tie
-use Rattle.canonical.proofs.events.give.Reads as reads
-use Rattle.canonical.proofs.events.give.Lts as lts
+use Rattle.labelled.proofs.Arrays.{holds-give}
+use Rattle.labelled.proofs.events.give.Statement.{statement}
+use Rattle.labelled.proofs.events.give.Tie as tie
+use Rattle.labelled.proofs.events.give.Reads as reads
+use Rattle.labelled.proofs.events.give.Lts as lts
 use Rattle.lists.proofs.wide.Reads as wide-reads
 
 -- src/events.rt:36:17

@@ -2,10 +2,10 @@ use borrow.Author.Needs.{needs}
 use mathlib.Core.Path.{_≡_, sym, ap, _∙_}
 use lib.ListN.{getD}
 use Rattle.diagrams.proofs.Entries.{at-place}
-use Rattle.canonical.proofs.events.follow.Statement.{statement}
-use Rattle.canonical.proofs.events.follow.Tie as tie
-use Rattle.canonical.proofs.events.follow.Reads as reads
-use Rattle.canonical.proofs.events.follow.Lts as lts
+use Rattle.labelled.proofs.events.follow.Statement.{statement}
+use Rattle.labelled.proofs.events.follow.Tie as tie
+use Rattle.labelled.proofs.events.follow.Reads as reads
+use Rattle.labelled.proofs.events.follow.Lts as lts
 use Rattle.lists.proofs.wide.Reads as wide-reads
 
 -- src/events.rt:27:7

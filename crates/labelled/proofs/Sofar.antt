@@ -16,9 +16,9 @@ use Rattle.pending.proofs.Laws.{ring-top}
 use Rattle.labelling.specs.Labelling.{move, Labelled, run, first, label, edge, labels, wordOf}
 use Rattle.labelling.proofs.Along.{falls, size}
 use Rattle.labelling.proofs.Labels.{Done, done, whole, edge-n}
-use Rattle.canonical.specs.Scratch.{Underway, opening, Did, Wrote}
-use Rattle.canonical.specs.declared.events.Turn.{Turn}
-use Rattle.canonical.proofs.Underway.{accepts-maps, accepts-diagram}
+use Rattle.labelled.specs.Scratch.{Underway, opening, Did, Wrote}
+use Rattle.labelled.specs.declared.events.Turn.{Turn}
+use Rattle.labelled.proofs.Underway.{accepts-maps, accepts-diagram}
 
 -- the items w before what is to come
 abbrev pub after : List ℕ → Labelled → Labelled

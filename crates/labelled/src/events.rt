@@ -10,7 +10,7 @@ ghost use Rattle.lists.specs.Ranges.{Edge};
 ghost use Rattle.diagrams.specs.Check.{Accepts};
 ghost use Rattle.pending.specs.Ring.{Ring};
 ghost use Rattle.labelling.specs.Labelling.{move};
-ghost use Rattle.canonical.specs.Scratch.{Holds, Underway, opening, Did, Ready};
+ghost use Rattle.labelled.specs.Scratch.{Holds, Underway, opening, Did, Ready};
 
 // An event's item, and how many labels are given after it.
 pub struct Turn {

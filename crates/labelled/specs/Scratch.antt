@@ -19,7 +19,7 @@ use Rattle.diagrams.specs.Check.{Accepts}
 use Rattle.pending.specs.Ring.{Ring}
 use Rattle.labelling.specs.Labelling.{Move, first, lab, edge, labels, wordOf}
 use Rattle.labelling.proofs.Along.{Inv}
-use Rattle.canonical.specs.declared.events.Turn.{Turn}
+use Rattle.labelled.specs.declared.events.Turn.{Turn}
 
 -- an edge without a label has 0; what `order` holds past the labels given does not count
 pub record Holds (la od : List ℕ) (given : ℕ) (o : List ℕ) : Type 0 where

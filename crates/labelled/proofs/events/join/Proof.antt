@@ -2,10 +2,10 @@ use borrow.Author.Needs.{needs}
 use native.Mathlib.Omega.{arith}
 use Rattle.pending.proofs.Laws.{ring-few}
 use Rattle.lists.proofs.Lists.{find-lt}
-use Rattle.canonical.proofs.events.join.Statement.{statement}
-use Rattle.canonical.proofs.events.join.Tie as tie
-use Rattle.canonical.proofs.events.join.Reads as reads
-use Rattle.canonical.proofs.events.join.Lts as lts
+use Rattle.labelled.proofs.events.join.Statement.{statement}
+use Rattle.labelled.proofs.events.join.Tie as tie
+use Rattle.labelled.proofs.events.join.Reads as reads
+use Rattle.labelled.proofs.events.join.Lts as lts
 use Rattle.pending.proofs.depth.Reads as depth-reads
 use Rattle.pending.proofs.unhook.Reads as unhook-reads
 

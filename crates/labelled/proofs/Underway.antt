@@ -16,8 +16,8 @@ use Rattle.labelling.specs.Labelling.{Move, move}
 use Rattle.labelling.proofs.Along.{Inv, View, is-W, is-J, is-B, is-F, view, next, size}
 use Rattle.labelling.proofs.Labels.{inv-U, inv-T}
 use Rattle.labelling.proofs.Moves.{move-W, move-J, move-B, move-F}
-use Rattle.canonical.specs.Scratch.{Holds, Underway, opening, Did}
-use Rattle.canonical.proofs.Arrays.{lab-none, lab-zero}
+use Rattle.labelled.specs.Scratch.{Holds, Underway, opening, Did}
+use Rattle.labelled.proofs.Arrays.{lab-none, lab-zero}
 
 -- ---- accepted diagrams
 

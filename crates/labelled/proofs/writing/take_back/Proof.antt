@@ -1,11 +1,11 @@
 use borrow.Author.Needs.{needs}
 use native.Mathlib.Omega.{arith}
-use Rattle.canonical.proofs.Arrays.{take-back, taken-back}
-use Rattle.canonical.specs.Scratch.{HoldsSome}
-use Rattle.canonical.proofs.writing.take_back.Statement.{statement}
-use Rattle.canonical.proofs.writing.take_back.Tie as tie
-use Rattle.canonical.proofs.writing.take_back.Reads as reads
-use Rattle.canonical.proofs.writing.take_back.Lts as lts
+use Rattle.labelled.proofs.Arrays.{take-back, taken-back}
+use Rattle.labelled.specs.Scratch.{HoldsSome}
+use Rattle.labelled.proofs.writing.take_back.Statement.{statement}
+use Rattle.labelled.proofs.writing.take_back.Tie as tie
+use Rattle.labelled.proofs.writing.take_back.Reads as reads
+use Rattle.labelled.proofs.writing.take_back.Lts as lts
 use Rattle.lists.proofs.wide.Reads as wide-reads
 
 abbrev Inv-loop : tie.InvT-loop

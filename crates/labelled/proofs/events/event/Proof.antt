@@ -5,19 +5,19 @@ use Prim.Native.Nat.{ℕ}
 use denote.Ref.{now}
 use mathlib.Core.Logic.{_≢_}
 use lib.ListN.{length, getD}
-use Rattle.canonical.proofs.Underway.{accepts-small, popped-edge, partner-edge, partner-small, partner-pending, did-W, did-J, did-B, did-F, bud-room, fork-room, fork-new}
-use Rattle.canonical.specs.Scratch.{Underway, Did}
+use Rattle.labelled.proofs.Underway.{accepts-small, popped-edge, partner-edge, partner-small, partner-pending, did-W, did-J, did-B, did-F, bud-room, fork-room, fork-new}
+use Rattle.labelled.specs.Scratch.{Underway, Did}
 use Rattle.pending.specs.Ring.{Ring}
 use Rattle.lists.specs.Lists.{at, Has}
 use Rattle.lists.specs.Ranges.{Edge}
-use Rattle.canonical.proofs.events.event.Statement.{statement}
-use Rattle.canonical.proofs.events.event.Tie as tie
-use Rattle.canonical.proofs.events.event.Reads as reads
-use Rattle.canonical.proofs.events.event.Lts as lts
-use Rattle.canonical.proofs.events.follow.Reads as follow-reads
-use Rattle.canonical.proofs.events.fork.Reads as fork-reads
-use Rattle.canonical.proofs.events.give.Reads as give-reads
-use Rattle.canonical.proofs.events.join.Reads as join-reads
+use Rattle.labelled.proofs.events.event.Statement.{statement}
+use Rattle.labelled.proofs.events.event.Tie as tie
+use Rattle.labelled.proofs.events.event.Reads as reads
+use Rattle.labelled.proofs.events.event.Lts as lts
+use Rattle.labelled.proofs.events.follow.Reads as follow-reads
+use Rattle.labelled.proofs.events.fork.Reads as fork-reads
+use Rattle.labelled.proofs.events.give.Reads as give-reads
+use Rattle.labelled.proofs.events.join.Reads as join-reads
 use Rattle.lists.proofs.wide.Reads as wide-reads
 use Rattle.pending.proofs.pop.Reads as pop-reads
 
