@@ -88,10 +88,7 @@ fn end_or_pop(out: &mut [u16], at: usize, word: &mut [u16], len: usize, h: u16, 
 pub fn plain_walk(n: u64, out: &mut [u16]) -> Walked
     ensures { λ r. ⌜ Wrote n (now (out .entry)) (now (out .exit)) r ⌝ }
 {
-    if n < 1 {
-        return Walked::Refused(35);
-    }
-    if 9 < n {
+    if n < 1 || 9 < n {
         return Walked::Refused(35);
     }
     if out.len() < 1024 {
