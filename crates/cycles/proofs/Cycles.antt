@@ -10,9 +10,19 @@ use lib.Dec.{eqb, leb}
 use Rattle.lists.specs.Ranges.{Edge}
 use Rattle.lists.proofs.Tests.{same?, lt?, eqb-eq, eqb-true, le-true, leb-true}
 use Rattle.lists.proofs.Ranges.{every-true, true-every}
-use Rattle.cycles.specs.Cycles.{Perm, after, Same, seek, least, period}
-use Rattle.cycles.proofs.Tallies.{tally-le, tally-all}
+use Rattle.cycles.specs.Cycles.{Perm, after, Same, seek, least, cycles, period, fixes}
+use Rattle.cycles.proofs.Tallies.{tally-le, tally-most, tally-all}
 use Rattle.cycles.proofs.Searches.{First, seek-first}
+
+-- ---- bounds
+
+pub cycles-most : (n : ℕ) (φ : ℕ → ℕ) → cycles n φ ≤ n
+unfolding cycles
+cycles-most n φ = tally-most n (least n φ)
+
+pub fixes-most : (n : ℕ) (g : ℕ → ℕ) → fixes n g ≤ n
+unfolding fixes
+fixes-most n g = tally-most n (λ x. eqb (g x) x)
 
 -- ---- powers
 
