@@ -1,0 +1,5 @@
+pub mod Demand2
+pub mod FirstList
+pub mod SecondList
+pub mod Corollaries
+pub mod Demand3

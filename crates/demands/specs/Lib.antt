@@ -1,0 +1,5 @@
+pub mod Demand2
+pub mod FirstList
+pub mod SecondList
+pub mod Demand3
+pub mod Corollaries
