@@ -1,6 +1,6 @@
 -- Laws of the search: an edge is put on the list at most once, so the list has room; and a list that holds edge 1 and, with each
 -- edge, both its neighbours, holds every edge that is reached.
-use mathlib.Core.Path.{_≡_, refl, sym, ap, _∙_}
+use mathlib.Core.Path.{_≡_, refl, sym, _∙_}
 use mathlib.Core.Logic.{_≢_, _⊎_, inl, inr, ⊎-elim, _↔_}
 use mathlib.Core.List.{List, [], _∷_, _++_}
 use Prim.Native.Nat.{ℕ, zero, suc, _+_, _-_, _≤_, _<_}

@@ -71,8 +71,18 @@ fn sizes() {
     case(b"size 5", &[1, 3, 4, 2, 5], &[2, 1, 5, 4, 3], 5);
     case(b"size 6", &[2, 3, 1, 5, 6, 4], &[5, 4, 3, 2, 1, 6], 1);
     case(b"size 7", &[1, 3, 4, 2, 6, 7, 5], &[2, 1, 7, 5, 4, 6, 3], 4);
-    case(b"size 8", &[1, 3, 4, 2, 6, 7, 5, 8], &[2, 1, 7, 5, 4, 8, 3, 6], 8);
-    case(b"size 9", &[2, 3, 1, 5, 6, 4, 8, 9, 7], &[1, 2, 4, 3, 5, 7, 6, 8, 9], 9);
+    case(
+        b"size 8",
+        &[1, 3, 4, 2, 6, 7, 5, 8],
+        &[2, 1, 7, 5, 4, 8, 3, 6],
+        8,
+    );
+    case(
+        b"size 9",
+        &[2, 3, 1, 5, 6, 4, 8, 9, 7],
+        &[1, 2, 4, 3, 5, 7, 6, 8, 9],
+        9,
+    );
 }
 
 // A case for each refusal, and for each way to go wrong under it.
@@ -83,7 +93,12 @@ fn refusals() {
     case(b"white list empty", &[1], &[], 1);
     case(b"root 0", &[1, 2], &[2, 1], 0);
     case(b"root n + 1", &[1, 2], &[2, 1], 3);
-    case(b"root 65537, which is 1 in 16 bits", &[1, 2], &[2, 1], 65537);
+    case(
+        b"root 65537, which is 1 in 16 bits",
+        &[1, 2],
+        &[2, 1],
+        65537,
+    );
     case(b"largest root", &[1, 2], &[2, 1], 18446744073709551615);
     case(b"black entry 0", &[2, 3, 0], &[2, 1, 3], 1);
     case(b"black entry n + 1", &[2, 3, 4], &[2, 1, 3], 1);
@@ -92,30 +107,95 @@ fn refusals() {
     case(b"white entry n + 1", &[2, 3, 1], &[2, 1, 4], 1);
     case(b"white entry 65535", &[2, 3, 1], &[65535, 1, 3], 1);
     case(b"black list swaps two edges", &[2, 1], &[2, 1], 1);
-    case(b"black list goes round four edges", &[2, 3, 4, 1], &[1, 2, 3, 4], 1);
+    case(
+        b"black list goes round four edges",
+        &[2, 3, 4, 1],
+        &[1, 2, 3, 4],
+        1,
+    );
     case(b"black list not one-to-one", &[1, 1], &[2, 1], 1);
-    case(b"white list goes round three edges", &[2, 3, 1], &[2, 3, 1], 1);
+    case(
+        b"white list goes round three edges",
+        &[2, 3, 1],
+        &[2, 3, 1],
+        1,
+    );
     case(b"white list not one-to-one", &[2, 3, 1], &[1, 2, 2], 1);
     case(b"two edges apart", &[1, 2], &[1, 2], 1);
-    case(b"two triples apart", &[2, 3, 1, 5, 6, 4], &[2, 1, 3, 4, 6, 5], 1);
-    case(b"edge 1 apart, root elsewhere", &[1, 3, 4, 2], &[1, 2, 4, 3], 2);
+    case(
+        b"two triples apart",
+        &[2, 3, 1, 5, 6, 4],
+        &[2, 1, 3, 4, 6, 5],
+        1,
+    );
+    case(
+        b"edge 1 apart, root elsewhere",
+        &[1, 3, 4, 2],
+        &[1, 2, 4, 3],
+        2,
+    );
 }
 
 // Where two conditions hold, the first is answered.
 fn order() {
     case(b"no edge, lengths differ: 1 before 2", &[], &[1], 1);
     case(b"no edge, root outside: 1 before 3", &[], &[], 0);
-    case(b"lengths differ, root outside: 2 before 3", &[1], &[2, 1], 2);
-    case(b"lengths differ, black entry outside: 2 before 4", &[3, 2], &[1], 1);
-    case(b"root outside, black entry outside: 3 before 4", &[0], &[1], 2);
-    case(b"root outside, not connected: 3 before 8", &[1, 2], &[1, 2], 0);
+    case(
+        b"lengths differ, root outside: 2 before 3",
+        &[1],
+        &[2, 1],
+        2,
+    );
+    case(
+        b"lengths differ, black entry outside: 2 before 4",
+        &[3, 2],
+        &[1],
+        1,
+    );
+    case(
+        b"root outside, black entry outside: 3 before 4",
+        &[0],
+        &[1],
+        2,
+    );
+    case(
+        b"root outside, not connected: 3 before 8",
+        &[1, 2],
+        &[1, 2],
+        0,
+    );
     case(b"both entries outside: 4 before 5", &[1, 3], &[0, 1], 1);
-    case(b"black entry outside, another moved: 4 before 6", &[2, 1, 4], &[1, 2, 3], 1);
-    case(b"white entry outside, black moves: 5 before 6", &[2, 1], &[2, 3], 1);
-    case(b"white entry outside, another moved: 5 before 7", &[2, 3, 1], &[2, 3, 0], 1);
+    case(
+        b"black entry outside, another moved: 4 before 6",
+        &[2, 1, 4],
+        &[1, 2, 3],
+        1,
+    );
+    case(
+        b"white entry outside, black moves: 5 before 6",
+        &[2, 1],
+        &[2, 3],
+        1,
+    );
+    case(
+        b"white entry outside, another moved: 5 before 7",
+        &[2, 3, 1],
+        &[2, 3, 0],
+        1,
+    );
     case(b"both move: 6 before 7", &[2, 1, 3], &[2, 3, 1], 1);
-    case(b"black moves, not connected: 6 before 8", &[2, 1, 3], &[1, 2, 3], 1);
-    case(b"white moves, not connected: 7 before 8", &[1, 2, 3, 4], &[2, 3, 1, 4], 1);
+    case(
+        b"black moves, not connected: 6 before 8",
+        &[2, 1, 3],
+        &[1, 2, 3],
+        1,
+    );
+    case(
+        b"white moves, not connected: 7 before 8",
+        &[1, 2, 3, 4],
+        &[2, 3, 1, 4],
+        1,
+    );
 }
 
 // Edge x's entry becomes y.
@@ -186,7 +266,14 @@ fn limits(s0: &mut [u16], s1: &mut [u16]) {
     longest(s0, s1);
     put(s1, 511, 511);
     put(s1, 512, 512);
-    part(b"size 1024, parted between edges 511 and 512", s0, s1, 1024, 1024, 1);
+    part(
+        b"size 1024, parted between edges 511 and 512",
+        s0,
+        s1,
+        1024,
+        1024,
+        1,
+    );
 }
 
 fn reached() {
