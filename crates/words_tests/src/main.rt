@@ -108,7 +108,12 @@ fn decimals_that_fit() {
     decimal(b"two digits", 10, 1, &mut [b'.'; 4]);
     decimal(b"noughts at the end", 100, 0, &mut [b'.'; 3]);
     decimal(b"the largest item", 65535, 2, &mut [b'.'; 8]);
-    decimal(b"the largest number", 18446744073709551615, 0, &mut [b'.'; 20]);
+    decimal(
+        b"the largest number",
+        18446744073709551615,
+        0,
+        &mut [b'.'; 20],
+    );
 }
 
 fn decimals_that_do_not() {
