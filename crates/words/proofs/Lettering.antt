@@ -28,7 +28,7 @@ event-jump (suc zero) h = absurd (omega arith)
 event-jump (suc (suc zero)) h = absurd (omega arith)
 event-jump (suc (suc (suc d))) h = let e : suc (suc (suc d)) - 3 ≡ d = omega arith in rw e
 
--- a J, and its number after it
+-- a J, then its number
 pub wrote-jump : (d : List ℕ) (i x r : ℕ) (e : List ℕ) → 3 ≤ x → i + length (event-letters x) ≤ length d → Put (set d i 74) (i + 1) (decimal (x - 3)) r e → Wrote d i (event-letters x) r e
 wrote-jump d i x r e j h p =
     rw (event-jump x j) (wrote-then d i (74 ∷ []) (decimal (x - 3)) (i + 1) (set d i 74) r e (omega (arith, long)) (wrote-byte d i 74 (omega (arith, long))) (put-wrote (set d i 74) (i + 1) (decimal (x - 3)) r e (rw length-set (omega (arith, long))) p))
@@ -45,9 +45,9 @@ events-from w i h = rw (drop-cons w i 0 h, add-one, events-letters)
 pub length-from : (w : List ℕ) (i : ℕ) → i < length w → length (events-letters (drop i w)) ≡ length (event-letters (getD w i 0)) + length (events-letters (drop (i + 1) w))
 length-from w i h = rw (events-from w i h, length-append)
 
-pub events-over : (w : List ℕ) (i : ℕ) → length w ≤ i → events-letters (drop i w) ≡ []
+pub events-past : (w : List ℕ) (i : ℕ) → length w ≤ i → events-letters (drop i w) ≡ []
 unfolding events-letters
-events-over w i h = rw (drop-of-length-le w h)
+events-past w i h = rw (drop-of-length-le w h)
 
 -- the letters of w are being written at place i of d: e holds those of the first k events, before `next`
 pub record Rest (d : List ℕ) (i : ℕ) (w e : List ℕ) (next k : ℕ) : Type 0 where
@@ -84,7 +84,7 @@ rest-end d i w e next k h l = record {
 }
   where
     none : events-letters (drop k w) ≡ []
-    none = events-over w k h
+    none = events-past w k h
 
 -- ---- the answer of `letters`
 

@@ -7,7 +7,7 @@ use lib.ListN.{length, drop}
 use borrow.Author.Needs.{needs}
 use Rattle.lists.proofs.Tests.{le-true, le-false}
 use Rattle.words.specs.Letters.{events-letters}
-use Rattle.words.proofs.Lettering.{length-from, events-over}
+use Rattle.words.proofs.Lettering.{length-from, events-past}
 use Rattle.words.proofs.events_fit.Statement.{statement}
 use Rattle.words.proofs.events_fit.Tie as tie
 
@@ -48,7 +48,7 @@ loop-again : tie.Need-loop-again Inv-loop μ-loop
 loop-again c = omega (arith, length-from (c .before .before .before .before .before .before .args .items .now) (c .before .before .before .before .loop .i) (c .before .before .before .loop-test .taken))
 
 returns-2 : tie.Need-returns-2 Inv-loop μ-loop
-returns-2 c = sym (le-true (length (events-letters items)) room (omega (arith, ap length (events-over items (c .before .loop .i) (c .loop-test .left)))))
+returns-2 c = sym (le-true (length (events-letters items)) room (omega (arith, ap length (events-past items (c .before .loop .i) (c .loop-test .left)))))
   where
     items : List ℕ
     items = c .before .before .before .args .items .now

@@ -1,4 +1,5 @@
 -- The answer by cases: no item, a first item without a letter, and otherwise that of `put_letters`.
+use native.Mathlib.Omega.{arith}
 use borrow.Author.Needs.{needs}
 use Rattle.words.proofs.Lettering.{lettering-none, lettering-first, lettering-split}
 use Rattle.words.proofs.letters.Statement.{statement}
@@ -11,7 +12,7 @@ shared-slice-read-x : tie.Need-shared-slice-read-x
 shared-slice-read-x c = search needs
 
 returns-2 : tie.Need-returns-2
-returns-2 c = lettering-first _ _ (c .if2 .taken)
+returns-2 c = lettering-first _ _ (omega arith)
 
 sub-put-letters : tie.Need-sub-put-letters
 sub-put-letters c = search needs

@@ -4,7 +4,7 @@ use Prim.Native.Nat.{_≤_, _-_}
 use lib.ListN.{length, drop}
 use borrow.Author.Needs.{needs}
 use Rattle.words.specs.Order.{precedes}
-use Rattle.words.proofs.Order.{precedes-from, precedes-by, precedes-short, precedes-over}
+use Rattle.words.proofs.Order.{precedes-from, precedes-by, precedes-short, precedes-past}
 use Rattle.words.proofs.precedes.Statement.{statement}
 use Rattle.words.proofs.precedes.Tie as tie
 
@@ -45,7 +45,7 @@ loop-again : tie.Need-loop-again Inv-loop μ-loop
 loop-again c = (search needs, c .before .before .before .before .before .loop .inv .1 ∙ precedes-from _ _ _ (c .before .before .before .if1 .left) (c .before .before .before .before .loop-test .taken) (c .if2 .left))
 
 returns-3 : tie.Need-returns-3 Inv-loop μ-loop
-returns-3 c = sym (c .before .loop .inv .1 ∙ precedes-over _ _ _ (c .loop-test .left))
+returns-3 c = sym (c .before .loop .inv .1 ∙ precedes-past _ _ _ (c .loop-test .left))
 
 pub precedes-spec : {M : Type 1} → statement M
 precedes-spec =
