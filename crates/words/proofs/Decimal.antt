@@ -1,5 +1,5 @@
 -- Laws of decimals: how many digits are enough, and the last digit taken off, which is the step of each loop over the digits.
-use mathlib.Core.Path.{_≡_, refl, sym, ap, _∙_}
+use mathlib.Core.Path.{_≡_, sym, ap, _∙_}
 use mathlib.Core.Logic.{_⊎_, inl, inr}
 use mathlib.Core.List.{List, [], _∷_, _++_}
 use Prim.Native.Nat.{ℕ, zero, suc, _+_, _-_, _/_, _%_, _^_, _≤_, _<_}
@@ -10,7 +10,7 @@ use Rattle.lists.proofs.Tests.{lt?, lt-true, lt-false}
 use Rattle.words.specs.Letters.{digits, decimal, over}
 use Rattle.words.proofs.Writing.{over-byte, over-last}
 
--- ---- decimals
+-- ---- digits
 
 digits-small : (k m : ℕ) → m < 10 → digits (suc k) m ≡ (48 + m) ∷ []
 unfolding digits
@@ -20,7 +20,7 @@ digits-more : (k m : ℕ) → 10 ≤ m → digits (suc k) m ≡ digits k (m / 10
 unfolding digits
 digits-more k m h = rw (lt-false m 10 h)
 
--- k digits are enough for a number below 10 to the k
+-- k + 1 digits are enough for a number below 10 ^ (k + 1): with more allowed it is the same
 pub digits-enough : (k j m : ℕ) → m < 10 ^ suc k → suc k ≤ j → digits j m ≡ digits (suc k) m
 digits-enough k zero m h l = absurd (omega arith)
 digits-enough zero (suc j) m h l = digits-small j m h ∙ sym (digits-small 0 m h)

@@ -116,5 +116,5 @@ precedes-by u v i hu hv n = rw (drop-cons u i 0 hu, drop-cons v i 0 hv, eqb-ne (
 pub precedes-short : (u v : List ℕ) (i : ℕ) → length u ≤ i → i < length v → precedes (drop i u) (drop i v) ≡ true
 precedes-short u v i hu hv = rw (drop-of-length-le u hu, drop-cons v i 0 hv)
 
-pub precedes-over : (u v : List ℕ) (i : ℕ) → length v ≤ i → precedes (drop i u) (drop i v) ≡ false
-precedes-over u v i h = rw (drop-of-length-le v h)
+pub precedes-past : (u v : List ℕ) (i : ℕ) → length v ≤ i → precedes (drop i u) (drop i v) ≡ false
+precedes-past u v i h = rw (drop-of-length-le v h)

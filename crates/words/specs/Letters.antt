@@ -6,9 +6,11 @@
 --   Wrote d i s r e       s was written at place i of d: e is `over d i s`, and r the place after it
 --   Put d i s r e         the same where s fits; where it does not, e is d and r is i
 --   letters w             U or T, then for each item W, F, B or J with d in decimal; a first item above 1 has no letter
+--   opens w               w has no item, or a first item that is 0 or 1
 --   lettering w n         the answer of `letters` on room for n bytes: 22 where the first item is not 0 or 1, then 9 where the room is short,
 --                         otherwise the number of letters
---   Lettering w d r e     the promise of `letters`: that answer, and the room from d before to e after
+--   Room r w d e          the room d before is e after the answer r: the letters and then the rest of d, or d where it refuses
+--   Lettering w d r e     the promise of `letters`: that answer, and that room
 use mathlib.Core.Path.{_≡_}
 use mathlib.Core.Bool.{Bool, true}
 use mathlib.Core.List.{List, [], _∷_, _++_}
@@ -25,7 +27,7 @@ unfoldable pub digits : ℕ → ℕ → List ℕ
 digits zero m = []
 digits (suc k) m = let r = digits k (m / 10) in pick (ltb m 10) ((48 + m) ∷ []) (r ++ ((48 + m % 10) ∷ []))
 
--- a number of 64 bits is below 10^20: twenty digits are enough
+-- twenty digits are enough: a number of 64 bits is below 10 ^ 20
 unfoldable pub decimal : ℕ → List ℕ
 decimal m = digits 20 m
 
@@ -44,11 +46,13 @@ pub record Put (d : List ℕ) (i : ℕ) (s : List ℕ) (r : ℕ) (e : List ℕ) 
 
 -- ---- words
 
+-- U, T
 abbrev pub first-letter : ℕ → List ℕ
 first-letter zero = 85 ∷ []
 first-letter (suc zero) = 84 ∷ []
 first-letter (suc (suc x)) = []
 
+-- W, F, B, Jd
 abbrev pub event-letters : ℕ → List ℕ
 event-letters zero = 87 ∷ []
 event-letters (suc zero) = 70 ∷ []
@@ -63,7 +67,6 @@ unfoldable pub letters : List ℕ → List ℕ
 letters [] = []
 letters (x ∷ w) = first-letter x ++ events-letters w
 
--- no item, or a first item that is 0 or 1
 abbrev pub opens : List ℕ → Bool
 opens [] = true
 opens (x ∷ w) = ltb x 2
@@ -71,7 +74,6 @@ opens (x ∷ w) = ltb x 2
 abbrev pub lettering : List ℕ → ℕ → Lettered
 lettering w n = pick (opens w) (pick (leb (length (letters w)) n) (Length (length (letters w))) (Refused 9)) (Refused 22)
 
--- the room after, by the answer's cases
 abbrev pub Room : Lettered → List ℕ → List ℕ → List ℕ → Type 0
 Room (Length n) w d e = e ≡ letters w ++ drop n d
 Room (Refused k) w d e = e ≡ d

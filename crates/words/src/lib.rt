@@ -1,4 +1,4 @@
-// Words: their dictionary order and their letters. What a word spells is in specs/Word.antt.
+// Words: their dictionary order and their letters; and decimals, which letters have. (What a word spells: specs/Word.antt.)
 ghost use mathlib.Core.Path.{_≡_};
 ghost use mathlib.Core.List.{_∷_, []};
 ghost use Prim.Native.Nat.{_+_, _≤_, _<_};
@@ -27,7 +27,7 @@ pub fn precedes(a: &[u16], b: &[u16]) -> bool
     false
 }
 
-// The smaller of two lent lists, handed back as it was lent; on equality the first.
+// The smaller of two lent lists, itself handed back and not a copy; on equality the first.
 pub fn lesser<'a>(a: &'a [u16], b: &'a [u16]) -> &'a [u16]
     ensures which { λ r. ⌜ r ≡ pick (precedes (now (b .entry)) (now (a .entry))) (b .entry) (a .entry) ⌝ }
     ensures items { λ r. ⌜ now r ≡ lesser (now (a .entry)) (now (b .entry)) ⌝ }
@@ -51,7 +51,8 @@ fn decimal_length(m: u64) -> usize
     n
 }
 
-// Writes m in decimal at a place of out and returns the place after it; where it does not fit, writes nothing and returns the place itself.
+// Writes m in decimal at a place of out and returns the place after it. Where it does not fit, it writes nothing and returns
+// the place itself.
 pub fn put_decimal(out: &mut [u8], at: usize, m: u64) -> usize
     ensures { λ r. ⌜ Put (now (out .entry)) at (decimal m) r (now (out .exit)) ⌝ }
 {
@@ -89,6 +90,7 @@ fn event_length(x: u16) -> usize
     1 + decimal_length((x - 3) as u64)
 }
 
+// W, F or B.
 fn event_letter(x: u16) -> u8
     requires { ⌜ x < 3 ⌝ }
     ensures { λ r. ⌜ event-letters x ≡ r ∷ [] ⌝ }
@@ -100,6 +102,7 @@ fn event_letter(x: u16) -> u8
     }
 }
 
+// U or T.
 fn first_letter(x: u16) -> u8
     requires { ⌜ x < 2 ⌝ }
     ensures { λ r. ⌜ first-letter x ≡ r ∷ [] ⌝ }
@@ -107,7 +110,7 @@ fn first_letter(x: u16) -> u8
     if x == 0 { b'U' } else { b'T' }
 }
 
-// Whether the letters of all the events fit into room. (Their number alone could exceed a usize.)
+// Whether the letters of all the events fit into room. The room is counted down: the number of letters may exceed a usize.
 fn events_fit(items: &[u16], room: usize) -> bool
     ensures { λ r. ⌜ r ≡ leb (length (events-letters (now (items .entry)))) room ⌝ }
 {
@@ -124,6 +127,7 @@ fn events_fit(items: &[u16], room: usize) -> bool
     true
 }
 
+// Writes the letters of an event at a place and returns the place after them.
 fn put_event(out: &mut [u8], at: usize, x: u16) -> usize
     requires { ⌜ at + length (event-letters x) ≤ length (now out) ⌝ }
     ensures { λ r. ⌜ Wrote (now (out .entry)) at (event-letters x) r (now (out .exit)) ⌝ }
@@ -136,6 +140,7 @@ fn put_event(out: &mut [u8], at: usize, x: u16) -> usize
     put_decimal(out, at + 1, (x - 3) as u64)
 }
 
+// The same for events one after another.
 fn put_events(out: &mut [u8], at: usize, items: &[u16]) -> usize
     requires { ⌜ at + length (events-letters (now items)) ≤ length (now out) ⌝ }
     ensures { λ r. ⌜ Wrote (now (out .entry)) at (events-letters (now (items .entry))) r (now (out .exit)) ⌝ }
@@ -149,7 +154,7 @@ fn put_events(out: &mut [u8], at: usize, items: &[u16]) -> usize
     next
 }
 
-// Letters of a word that begins with x, a U or a T: nothing is written before it is known that all of them fit.
+// The letters of a word from its first item on, which has one. Nothing is written before it is known that all of them fit.
 fn put_letters(out: &mut [u8], x: u16, items: &[u16]) -> Lettered
     requires { ⌜ x < 2 ⌝ }
     ensures { λ r. ⌜ Lettering (x ∷ now (items .entry)) (now (out .entry)) r (now (out .exit)) ⌝ }

@@ -1,4 +1,4 @@
-// Dictionary order, decimals and letters, case by case: a line for each.
+// Dictionary order, decimals and letters, case by case: one line for each.
 use libc::STDOUT_FILENO;
 use words::Lettered;
 ghost use Prim.Native.Nat.{_≤_, _<_};
@@ -102,7 +102,7 @@ fn decimal(name: &[u8], m: u64, at: usize, out: &mut [u8]) {
     text(b"]\n");
 }
 
-fn decimals() {
+fn decimals_that_fit() {
     decimal(b"nought", 0, 0, &mut [b'.'; 2]);
     decimal(b"one digit, just room", 9, 1, &mut [b'.'; 2]);
     decimal(b"two digits", 10, 1, &mut [b'.'; 4]);
@@ -114,6 +114,9 @@ fn decimals() {
         0,
         &mut [b'.'; 20],
     );
+}
+
+fn decimals_that_do_not() {
     decimal(b"short by one", 1024, 1, &mut [b'.'; 4]);
     decimal(b"at the end", 0, 2, &mut [b'.'; 2]);
     decimal(b"far past the end", 7, 18446744073709551615, &mut [b'.'; 2]);
@@ -122,10 +125,7 @@ fn decimals() {
 // ---- letters
 
 // The answer, and the bytes in brackets.
-fn letters(name: &[u8], word: &[u16], out: &mut [u8]) {
-    text(b"letters, ");
-    text(name);
-    text(b": ");
+fn answer(word: &[u16], out: &mut [u8]) {
     match words::letters(word, out) {
         Lettered::Length(n) => number(n),
         Lettered::Refused(k) => {
@@ -138,32 +138,52 @@ fn letters(name: &[u8], word: &[u16], out: &mut [u8]) {
     text(b"]\n");
 }
 
-fn letters_of_sizes() {
-    letters(b"size 1", &[0, 0], &mut [b'.'; 5]);
-    letters(b"size 2", &[0, 2], &mut [b'.'; 5]);
-    letters(b"size 3", &[1, 0, 0, 0], &mut [b'.'; 5]);
-    letters(b"size 3", &[1, 0, 3], &mut [b'.'; 5]);
-    letters(b"size 3", &[1, 3, 0], &mut [b'.'; 5]);
-    letters(b"size 3", &[1, 4, 0], &mut [b'.'; 5]);
-    letters(b"size 4", &[0, 1, 0, 0], &mut [b'.'; 5]);
-    letters(b"size 4", &[0, 1, 3], &mut [b'.'; 5]);
-    letters(b"size 4", &[1, 0, 0, 2], &mut [b'.'; 5]);
-    letters(b"size 4", &[1, 0, 2, 0], &mut [b'.'; 5]);
-    letters(b"size 4", &[1, 2, 0, 0], &mut [b'.'; 5]);
-    letters(b"size 4", &[1, 2, 3], &mut [b'.'; 5]);
-    letters(b"size 4", &[1, 3, 2], &mut [b'.'; 5]);
-    letters(b"size 4", &[1, 4, 2], &mut [b'.'; 5]);
+fn size(n: u16, word: &[u16]) {
+    text(b"letters, size ");
+    item(n);
+    text(b": ");
+    answer(word, &mut [b'.'; 5]);
 }
 
-fn letters_at_the_edges() {
+fn sizes_to_three() {
+    size(1, &[0, 0]);
+    size(2, &[0, 2]);
+    size(3, &[1, 0, 0, 0]);
+    size(3, &[1, 0, 3]);
+    size(3, &[1, 3, 0]);
+    size(3, &[1, 4, 0]);
+}
+
+fn size_four() {
+    size(4, &[0, 1, 0, 0]);
+    size(4, &[0, 1, 3]);
+    size(4, &[1, 0, 0, 2]);
+    size(4, &[1, 0, 2, 0]);
+    size(4, &[1, 2, 0, 0]);
+    size(4, &[1, 2, 3]);
+    size(4, &[1, 3, 2]);
+    size(4, &[1, 4, 2]);
+}
+
+fn letters(name: &[u8], word: &[u16], out: &mut [u8]) {
+    text(b"letters, ");
+    text(name);
+    text(b": ");
+    answer(word, out);
+}
+
+fn letters_accepted() {
     letters(b"two digits, just room", &[1, 13], &mut [b'.'; 4]);
     letters(b"four digits", &[1, 1025, 0], &mut [b'.'; 9]);
     letters(b"the largest item", &[0, 65535], &mut [b'.'; 8]);
+    letters(b"no items", &[], &mut []);
+    letters(b"no items, the room as it was", &[], &mut [b'.'; 2]);
+}
+
+fn letters_refused() {
     letters(b"short by one", &[1, 1025], &mut [b'.'; 5]);
     letters(b"short by the last of many", &[1, 0, 0, 0], &mut [b'.'; 3]);
     letters(b"no room for U", &[0], &mut []);
-    letters(b"no items", &[], &mut []);
-    letters(b"no items, the room as it was", &[], &mut [b'.'; 2]);
     letters(b"first item 2", &[2, 0], &mut [b'.'; 5]);
     letters(b"first item 2 and no room", &[2, 0], &mut []);
     letters(b"first item the largest", &[65535], &mut [b'.'; 5]);
@@ -175,7 +195,10 @@ fn main() {
     text(b"least of four:");
     list(least(&[1, 0, 3, 9, 1, 0, 0, 1, 1, 0, 0, 0, 1, 3, 0, 0], 4));
     text(b"\n");
-    decimals();
-    letters_of_sizes();
-    letters_at_the_edges();
+    decimals_that_fit();
+    decimals_that_do_not();
+    sizes_to_three();
+    size_four();
+    letters_accepted();
+    letters_refused();
 }

@@ -1,16 +1,13 @@
-use borrow.Author.Needs.{needs}
+-- U or T: what is left of the numbers below 2 after 0 is 1.
 use mathlib.Core.Path.{_≡_}
 use native.Mathlib.Omega.{arith}
+use borrow.Author.Needs.{needs}
 use Rattle.words.proofs.first_letter.Statement.{statement}
 use Rattle.words.proofs.first_letter.Tie as tie
-use Rattle.words.proofs.first_letter.Reads as reads
-use Rattle.words.proofs.first_letter.Lts as lts
 
--- src/lib.rt:110:1
 returns : tie.Need-returns
 returns c = search needs
 
--- src/lib.rt:110:1
 returns-2 : tie.Need-returns-2
 returns-2 c = let e : c .before .args .x ≡ 1 = omega (arith, c .if1 .left) in rw e
 

@@ -1,13 +1,12 @@
+-- Both lists agree below i, so what is left of them from i on decides.
 use mathlib.Core.Path.{_≡_, refl, sym, _∙_}
 use Prim.Native.Nat.{_≤_, _-_}
 use lib.ListN.{length, drop}
 use borrow.Author.Needs.{needs}
 use Rattle.words.specs.Order.{precedes}
-use Rattle.words.proofs.Order.{precedes-from, precedes-by, precedes-short, precedes-over}
+use Rattle.words.proofs.Order.{precedes-from, precedes-by, precedes-short, precedes-past}
 use Rattle.words.proofs.precedes.Statement.{statement}
 use Rattle.words.proofs.precedes.Tie as tie
-use Rattle.words.proofs.precedes.Reads as reads
-use Rattle.words.proofs.precedes.Lts as lts
 
 abbrev Inv-loop : tie.InvT-loop
 Inv-loop a b i₀ i = (i ≤ length b) × (precedes a b ≡ precedes (drop i a) (drop i b))
@@ -15,49 +14,38 @@ Inv-loop a b i₀ i = (i ≤ length b) × (precedes a b ≡ precedes (drop i a) 
 abbrev μ-loop : tie.MeasureT-loop
 μ-loop a b i₀ i = length b - i
 
--- src/lib.rt:11:5
 loop-holds : tie.Need-loop-holds Inv-loop μ-loop
 loop-holds c = (search needs, refl)
 
--- src/lib.rt:13:13
 returns : tie.Need-returns Inv-loop μ-loop
 returns c = sym (c .before .before .loop .inv .1 ∙ precedes-short _ _ _ (c .if1 .taken) (c .before .loop-test .taken))
 
--- src/lib.rt:15:17
 mul-x : tie.Need-mul-x Inv-loop μ-loop
 mul-x c = search needs
 
--- src/lib.rt:15:17
 shared-slice-read-x : tie.Need-shared-slice-read-x Inv-loop μ-loop
 shared-slice-read-x c = search needs
 
--- src/lib.rt:16:17
 mul-y : tie.Need-mul-y Inv-loop μ-loop
 mul-y c = search needs
 
--- src/lib.rt:16:17
 shared-slice-read-y : tie.Need-shared-slice-read-y Inv-loop μ-loop
 shared-slice-read-y c = search needs
 
--- src/lib.rt:18:13
 returns-2 : tie.Need-returns-2 Inv-loop μ-loop
 returns-2 c = sym (c .before .before .before .before .before .loop .inv .1 ∙ precedes-by _ _ _ (c .before .before .before .if1 .left) (c .before .before .before .before .loop-test .taken) (c .if2 .taken))
 
--- src/lib.rt:20:9
 add-i : tie.Need-add-i Inv-loop μ-loop
 add-i c = search needs
 
--- src/lib.rt:11:5
 loop-less : tie.Need-loop-less Inv-loop μ-loop
 loop-less c = search needs
 
--- src/lib.rt:11:5
 loop-again : tie.Need-loop-again Inv-loop μ-loop
 loop-again c = (search needs, c .before .before .before .before .before .loop .inv .1 ∙ precedes-from _ _ _ (c .before .before .before .if1 .left) (c .before .before .before .before .loop-test .taken) (c .if2 .left))
 
--- src/lib.rt:7:1
 returns-3 : tie.Need-returns-3 Inv-loop μ-loop
-returns-3 c = sym (c .before .loop .inv .1 ∙ precedes-over _ _ _ (c .loop-test .left))
+returns-3 c = sym (c .before .loop .inv .1 ∙ precedes-past _ _ _ (c .loop-test .left))
 
 pub precedes-spec : {M : Type 1} → statement M
 precedes-spec =
