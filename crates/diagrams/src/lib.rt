@@ -20,8 +20,8 @@ pub enum Verdict {
 
 // A rooted diagram held by value: its lists stand in the first size places, zeros after them.
 pub struct Diagram {
-    pub s0: [u16; 1024],
-    pub s1: [u16; 1024],
+    pub s0: [u16; Diagram::MAX_SIZE],
+    pub s1: [u16; Diagram::MAX_SIZE],
     pub size: u16,
     pub root: u16,
 }
@@ -168,7 +168,7 @@ fn twice(s1: &[u16]) -> bool
 }
 
 // Marks edge x and puts it on the list, unless it is marked already. Returns how many edges the list then has.
-fn reach(marks: &mut [u8; 1024], list: &mut [u16; 1024], count: usize, x: usize) -> usize
+fn reach(marks: &mut [u8; Diagram::MAX_SIZE], list: &mut [u16; Diagram::MAX_SIZE], count: usize, x: usize) -> usize
     requires { ⌜ Search (now marks) (now list) count ⌝ }
     requires { ⌜ Edge 1024 x ⌝ }
     ensures { λ r. ⌜ Search (now (marks .exit)) (now (list .exit)) r × (take r (now (list .exit)) ≡ joined x (take count (now (list .entry)))) ⌝ }
@@ -182,7 +182,7 @@ fn reach(marks: &mut [u8; 1024], list: &mut [u16; 1024], count: usize, x: usize)
 }
 
 // Visits edge k, which the list has: its black and its white neighbour are reached.
-fn visit(s0: &[u16], s1: &[u16], marks: &mut [u8; 1024], list: &mut [u16; 1024], count: usize, k: usize) -> usize
+fn visit(s0: &[u16], s1: &[u16], marks: &mut [u8; Diagram::MAX_SIZE], list: &mut [u16; Diagram::MAX_SIZE], count: usize, k: usize) -> usize
     requires { ⌜ Mapped (now s0) (now s1) ⌝ }
     requires { ⌜ Edge (length (now s0)) k ⌝ }
     requires { ⌜ Search (now marks) (now list) count ⌝ }

@@ -2,3 +2,4 @@ pub mod Word
 pub mod Order
 pub mod Shape
 pub mod Letters
+pub mod Outputs

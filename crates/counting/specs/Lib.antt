@@ -1,0 +1,4 @@
+pub mod Listing
+pub mod Position
+pub mod Ranking
+pub mod Diagrams

@@ -1,0 +1,1 @@
+// The cycles of a permutation of the edges: definitions (specs) and laws (proofs). No code.

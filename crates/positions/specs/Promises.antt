@@ -1,0 +1,42 @@
+-- What count, diagram at a position and position of a diagram promise (document 01), by the cases of their answers; a refusal's number is 01's.
+-- Lists named a are as they were lent, lists named b as they are handed back.
+use mathlib.Core.Path.{_≡_}
+use mathlib.Core.Logic.{_⊎_}
+use mathlib.Core.List.{List}
+use Prim.Native.Nat.{ℕ}
+use lib.ListN.{length}
+use Rattle.lists.specs.Ranges.{Edge}
+use Rattle.diagrams.specs.Check.{Accepts, Refuses}
+use Rattle.words.specs.Outputs.{Short, Written, Untouched}
+use Rattle.labelling.specs.Labelling.{wordOf}
+use Rattle.counting.specs.Listing.{count}
+use Rattle.counting.specs.Position.{wordAt, position}
+use Rattle.counting.specs.Diagrams.{diagramAt}
+use Rattle.positions.specs.declared.Total.{Total}
+use Rattle.positions.specs.declared.Total.the-variants as total
+use Rattle.positions.specs.declared.Entry.{Entry}
+use Rattle.positions.specs.declared.Entry.the-variants as entry
+use Rattle.positions.specs.declared.Place.{Place}
+use Rattle.positions.specs.declared.Place.the-variants as place
+
+-- 31: the size is outside 1..50
+abbrev pub Counted : ℕ → Total → Type 0
+Counted n (total.Number c) = Edge 50 n × (c ≡ count n)
+Counted n (total.Refused k) = (k ≡ 31) × (¬ Edge 50 n)
+
+-- 31; 32: the position is 0 or above the count; 9
+abbrev pub RefusedAt : ℕ → ℕ → List ℕ → List ℕ → List ℕ → ℕ → Type 0
+RefusedAt n p a0 a1 aw k =
+    ((k ≡ 31) × (¬ Edge 50 n))
+    ⊎ (((k ≡ 32) × Edge 50 n × (¬ Edge (count n) p))
+    ⊎ ((k ≡ 9) × Edge 50 n × Edge (count n) p × Short n a0 a1 aw))
+
+abbrev pub Given : ℕ → ℕ → List ℕ → List ℕ → List ℕ → List ℕ → List ℕ → List ℕ → Entry → Type 0
+Given n p a0 a1 aw b0 b1 bw (entry.Length m) =
+    Edge 50 n × Edge (count n) p × (¬ Short n a0 a1 aw) × (m ≡ length (wordAt n p)) × Written (diagramAt n p) (wordAt n p) a0 a1 aw b0 b1 bw
+Given n p a0 a1 aw b0 b1 bw (entry.Refused k) = RefusedAt n p a0 a1 aw k × Untouched a0 a1 aw b0 b1 bw
+
+-- 1 to 8; 31
+abbrev pub Located : List ℕ → List ℕ → ℕ → Place → Type 0
+Located s0 s1 root (place.Number p) = Accepts s0 s1 root × Edge 50 (length s0) × (p ≡ position (length s0) (wordOf s0 s1 root))
+Located s0 s1 root (place.Refused k) = Refuses s0 s1 root k ⊎ ((k ≡ 31) × Accepts s0 s1 root × (¬ Edge 50 (length s0)))

@@ -1,0 +1,69 @@
+-- What the beginning and the step of a run promise (document 01, "Run"), by the cases of their answers; a refusal's number is 01's.
+-- Lists named a are as they were lent, lists named b as they are handed back.
+--
+--   blank                 the run of no size, all zeros: what a refused beginning hands back
+--   fresh n, at n w, finished n     the runs of size n: before the first diagram, at the diagram of the word w, after the last
+--   given n p             the run of size n that has given p diagrams: fresh, or at the p-th
+--   Stands n p run        it is that run, of a size 1..50
+use mathlib.Core.Path.{_≡_}
+use mathlib.Core.Logic.{_⊎_}
+use mathlib.Core.List.{List, [], _++_}
+use Prim.Native.Nat.{ℕ, zero, suc, _-_, _≤_, _<_}
+use lib.ListN.{length, replicate}
+use Rattle.lists.specs.Ranges.{Edge}
+use Rattle.words.specs.Outputs.{Short, Written, Untouched}
+use Rattle.counting.specs.Listing.{count}
+use Rattle.counting.specs.Position.{wordAt}
+use Rattle.counting.specs.Diagrams.{diagramAt}
+use Rattle.running.specs.declared.Run.{Run}
+use Rattle.running.specs.declared.Begun.{Begun}
+use Rattle.running.specs.declared.Beginning.{Beginning}
+use Rattle.running.specs.declared.Beginning.the-variants as beginning
+use Rattle.running.specs.declared.Stepping.{Stepping}
+use Rattle.running.specs.declared.Stepping.the-variants as stepping
+
+abbrev pub blank : Run
+blank = record { size = 0; stage = 0; length = 0; items = replicate 51 0 }
+
+abbrev pub fresh : ℕ → Run
+fresh n = record { size = n; stage = 0; length = 0; items = replicate 51 0 }
+
+abbrev pub at : ℕ → List ℕ → Run
+at n w = record { size = n; stage = 1; length = length w; items = w ++ replicate (51 - length w) 0 }
+
+abbrev pub finished : ℕ → Run
+finished n = record { size = n; stage = 2; length = 0; items = replicate 51 0 }
+
+abbrev pub given : ℕ → ℕ → Run
+given n zero = fresh n
+given n (suc p) = at n (wordAt n (suc p))
+
+pub record Stands (n p : ℕ) (run : Run) : Type 0 where
+  pub sized : Edge 50 n
+  pub within : p ≤ count n
+  pub is : run ≡ given n p
+
+-- a finished run of a size 1..50
+pub record Over (n : ℕ) (run : Run) : Type 0 where
+  pub sized : Edge 50 n
+  pub is : run ≡ finished n
+
+-- 31: the size is outside 1..50
+abbrev pub Begins : ℕ → Run → Beginning → Type 0
+Begins n run beginning.Begun = Edge 50 n × (run ≡ fresh n)
+Begins n run (beginning.Refused k) = (k ≡ 31) × (¬ Edge 50 n) × (run ≡ blank)
+
+-- 34: the run is neither fresh, nor at a diagram, nor finished; 9: it is not finished, and an output list is short
+abbrev pub RefusedStep : Run → List ℕ → List ℕ → List ℕ → ℕ → Type 0
+RefusedStep run a0 a1 aw k =
+    ((k ≡ 34) × ((n p : ℕ) → ¬ Stands n p run) × ((n : ℕ) → ¬ Over n run))
+    ⊎ ((k ≡ 9) × ((n : ℕ) × (p : ℕ) × Stands n p run × Short n a0 a1 aw))
+
+-- the run before and after, the lists before and after
+abbrev pub Steps : Run → Run → List ℕ → List ℕ → List ℕ → List ℕ → List ℕ → List ℕ → Stepping → Type 0
+Steps run next a0 a1 aw b0 b1 bw (stepping.Length m) =
+    (n : ℕ) × (p : ℕ) × Stands n p run × (p < count n) × (¬ Short n a0 a1 aw) × (next ≡ given n (suc p)) × (m ≡ length (wordAt n (suc p)))
+    × Written (diagramAt n (suc p)) (wordAt n (suc p)) a0 a1 aw b0 b1 bw
+Steps run next a0 a1 aw b0 b1 bw stepping.End =
+    ((n : ℕ) × (next ≡ finished n) × (Over n run ⊎ (Stands n (count n) run × (¬ Short n a0 a1 aw)))) × Untouched a0 a1 aw b0 b1 bw
+Steps run next a0 a1 aw b0 b1 bw (stepping.Refused k) = RefusedStep run a0 a1 aw k × (next ≡ run) × Untouched a0 a1 aw b0 b1 bw
