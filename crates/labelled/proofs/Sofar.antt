@@ -16,7 +16,7 @@ use Rattle.pending.proofs.Laws.{ring-top}
 use Rattle.labelling.specs.Labelling.{move, Labelled, run, first, label, edge, labels, wordOf}
 use Rattle.labelling.proofs.Along.{falls, size}
 use Rattle.labelling.proofs.Labels.{Done, done, whole, edge-n}
-use Rattle.labelled.specs.Scratch.{Underway, opening, Did, Wrote}
+use Rattle.labelled.specs.Scratch.{Holds, HoldsSome, Underway, opening, Did, Wrote}
 use Rattle.labelled.specs.declared.events.Turn.{Turn}
 use Rattle.labelled.proofs.Underway.{accepts-maps, accepts-diagram}
 
@@ -130,6 +130,15 @@ module _ (s0 s1 : List ℕ) (root : ℕ) (a : Accepts s0 s1 root) where
 
   pub labels-edges : (j : ℕ) → Edge (length s0) j → Edge (length s0) (edge (labels s0 s1 root) j)
   labels-edges = edge-n (length s0) (at s0) (at s1) (accepts-diagram s0 s1 root a) root (a .root-in) (labels s0 s1 root) labels-done
+
+  pub labels-some : (la od : List ℕ) → Holds la od (length s0) (labels s0 s1 root) → HoldsSome la od (length s0)
+  labels-some la od h = record {
+    edges = labels s0 s1 root;
+    holds = h;
+    apart = labels-done .inv .apart;
+    small = λ x i. (let e = labels-done .inv .edges x i in let n = a .size in omega arith);
+    room = a .size .1;
+  }
 
 -- ---- the items in a list: its first m places, before what it held
 
