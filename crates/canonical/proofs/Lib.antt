@@ -1,1 +1,3 @@
+pub mod Sameness
+pub mod Tried
 pub mod Characteristic

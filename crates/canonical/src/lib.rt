@@ -1,5 +1,7 @@
 // The operations that stand on the labelling: relabel, compare, symmetries, kept.
 
+mod rootings;
+
 use diagrams::Verdict;
 use labelled::writing::write_list;
 use labelled::writing::write_word;
