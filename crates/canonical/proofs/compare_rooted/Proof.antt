@@ -1,10 +1,22 @@
 use borrow.Author.Needs.{needs}
+use mathlib.Core.Path.{refl, sym, _∙_}
+use mathlib.Core.Logic.{inl, inr}
+use mathlib.Core.Bool.{true≢false}
+use denote.Ref.{now}
+use Rattle.diagrams.specs.Check.{Accepts}
 use Rattle.canonical.proofs.compare_rooted.Statement.{statement}
 use Rattle.canonical.proofs.compare_rooted.Tie as tie
 use Rattle.canonical.proofs.compare_rooted.Reads as reads
 use Rattle.canonical.proofs.compare_rooted.Lts as lts
 use Rattle.canonical.proofs.alike_rooted.Reads as alike-rooted-reads
 use Rattle.diagrams.proofs.check.Reads as check-reads
+
+-- both diagrams are accepted
+first-accepted : (c : tie.After-enum-told) → Accepts (now (c .before .before .before .before .before .before .before .args .s0)) (now (c .before .before .before .before .before .before .before .args .s1)) (c .before .before .before .before .before .before .before .args .r)
+first-accepted c = rw (c .enum-told .given .1) at (c .before .before .check .ensures)
+
+second-accepted : (c : tie.After-enum-told2) → Accepts (now (c .before .before .before .before .before .before .before .before .before .before .args .t0)) (now (c .before .before .before .before .before .before .before .before .before .before .args .t1)) (c .before .before .before .before .before .before .before .before .before .before .args .q)
+second-accepted c = rw (c .enum-told2 .given .1) at (c .before .before .check2 .ensures)
 
 -- src/lib.rt:122:9
 check-requires : tie.Need-check-requires
@@ -32,23 +44,23 @@ enum-told-2 c = search needs
 
 -- src/lib.rt:130:24
 alike-rooted-requires : tie.Need-alike-rooted-requires
-alike-rooted-requires c κs = ?
+alike-rooted-requires c κs = (first-accepted (c .before .before .before), second-accepted c)
 
 -- src/lib.rt:119:1
 returns : tie.Need-returns
-returns c = ?
+returns c = inl (refl, rw (c .before .first .given .1) at (c .before .before .before .check .ensures))
 
 -- src/lib.rt:119:1
 returns-2 : tie.Need-returns-2
-returns-2 c = ?
+returns-2 c = inr (refl, first-accepted (c .before .before .before .before), rw (c .before .second .given .1) at (c .before .before .before .check2 .ensures))
 
 -- src/lib.rt:119:1
 returns-3 : tie.Need-returns-3
-returns-3 c = ?
+returns-3 c = (first-accepted (c .before .before .before .before .before), second-accepted (c .before .before), c .before .alike-rooted .ensures .0 (c .if1 .taken))
 
 -- src/lib.rt:119:1
 returns-4 : tie.Need-returns-4
-returns-4 c = ?
+returns-4 c = (first-accepted (c .before .before .before .before .before), second-accepted (c .before .before), λ i. true≢false (sym (c .before .alike-rooted .ensures .1 i) ∙ c .if1 .left))
 
 pub compare-rooted-spec : {M : Type 1} → statement M
 compare-rooted-spec =
