@@ -14,7 +14,6 @@ use rootings::some_rooting;
 ghost use mathlib.Core.Path.{_≡_};
 ghost use mathlib.Core.Logic.{_↔_};
 ghost use mathlib.Core.Bool.{true};
-ghost use Prim.Native.Nat.{ℕ};
 ghost use Rattle.diagrams.specs.Check.{Accepts};
 ghost use Rattle.diagrams.specs.Isomorphism.{Alike, RootAlike};
 ghost use Rattle.labelling.specs.Rootings.{Kept, symmetries};

@@ -4,7 +4,7 @@ use mathlib.Core.Path.{_≡_, refl, sym, ap, _∙_}
 use mathlib.Core.Logic.{_≢_, _⊎_, inl, inr}
 use mathlib.Core.Bool.{Bool, true, false}
 use mathlib.Core.List.{List, [], _∷_, _++_, append-nil}
-use Prim.Native.Nat.{ℕ, zero, suc, _+_, _≤_, _<_}
+use Prim.Native.Nat.{ℕ, suc, _+_, _≤_, _<_}
 use native.Mathlib.Omega.{arith}
 use lib.Dec.{eqb, ltb}
 use lib.ListN.{length, getD, set, take, drop, take-append-drop, length-append, drop-of-length-le}
@@ -18,7 +18,6 @@ use Rattle.labelling.proofs.Along.{size}
 use Rattle.labelled.specs.Scratch.{Underway, opening, Did}
 use Rattle.labelled.specs.Traced.{goesOn, Traced, Followed}
 use Rattle.labelled.specs.declared.events.Turn.{Turn}
-use Rattle.labelled.specs.declared.tracing.Extent.{Extent}
 use Rattle.labelled.proofs.Underway.{accepts-maps}
 use Rattle.labelled.proofs.Sofar.{sofar-empty, sofar-word, sofar-end, Filled, filled-begin, filled-few, filled-more}
 

@@ -1,3 +1,4 @@
+-- `alike_rooted` meets its contract: words are the same exactly for diagrams that are isomorphic with roots.
 use borrow.Author.Needs.{needs}
 use mathlib.Core.Path.{sym}
 use mathlib.Core.Bool.{true≢false}
@@ -5,15 +6,10 @@ use Prim.Native.Nat.{_≤_}
 use native.Mathlib.Omega.{arith}
 use lib.ListN.{length}
 use lib.Seq.{length-take-le}
-use Rattle.canonical.proofs.Comparing.{traced-alike}
 use Rattle.labelled.proofs.Arrays.{zeros-ready}
+use Rattle.canonical.proofs.Comparing.{traced-alike}
 use Rattle.canonical.proofs.alike_rooted.Statement.{statement}
 use Rattle.canonical.proofs.alike_rooted.Tie as tie
-use Rattle.canonical.proofs.alike_rooted.Reads as reads
-use Rattle.canonical.proofs.alike_rooted.Lts as lts
-use Rattle.canonical.proofs.rootings.same.Reads as same-reads
-use Rattle.labelled.proofs.tracing.trace.Reads as trace-reads
-use Rattle.labelled.proofs.writing.own_word.Reads as own-word-reads
 
 -- the word is within its list
 written : (c : tie.After-own-word) → c .own-word .result ≤ length (c .own-word .last .1 .1 .1 .1 .1 .1 .1 .0)
@@ -30,63 +26,48 @@ traced c =
     let k = c .trace .kept .1 .1 .1 .1 .1 .1 .1 .1 .0 in
     omega arith
 
--- src/lib.rt:87:9
 returns : tie.Need-returns
 returns c = (λ e. absurd (true≢false (sym e)), λ i. absurd (c .if1 .taken (i .sizes)))
 
--- src/lib.rt:95:77
 cast-own-word : tie.Need-cast-own-word
 cast-own-word c = search needs
 
--- src/lib.rt:95:87
 slice-aggregate-own-word : tie.Need-slice-aggregate-own-word
 slice-aggregate-own-word c = search needs
 
--- src/lib.rt:95:9
 own-word-requires : tie.Need-own-word-requires
 own-word-requires c κs = (c .before .before .before .before .before .before .before .before .before .before .pre .1, (zeros-ready, (let n = c .before .before .before .before .before .before .before .before .before .before .pre .1 .size in omega arith)))
 
--- src/lib.rt:96:74
 cast-trace : tie.Need-cast-trace
 cast-trace c = search needs
 
--- src/lib.rt:96:84
 array-share-prefix-own : tie.Need-array-share-prefix-own
 array-share-prefix-own c = search needs
 
--- src/lib.rt:96:84
 slice-aggregate-trace : tie.Need-slice-aggregate-trace
 slice-aggregate-trace c = sym (length-take-le _ _ (written (c .before .before .before .before .before .before)))
 
--- src/lib.rt:96:95
 slice-aggregate-trace-2 : tie.Need-slice-aggregate-trace-2
 slice-aggregate-trace-2 c = search needs
 
--- src/lib.rt:96:9
 trace-requires : tie.Need-trace-requires
 trace-requires c κs = (c .before .before .before .before .before .before .before .before .before .before .before .before .before .before .before .before .before .before .pre .0, (c .before .before .before .before .before .before .before .own-word .ensures .1 .1, (let n = c .before .before .before .before .before .before .before .before .before .before .before .before .before .before .before .before .before .before .pre .0 .size in omega arith)))
 
--- src/lib.rt:97:10
 array-share-prefix-cand : tie.Need-array-share-prefix-cand
 array-share-prefix-cand c = traced (c .before)
 
--- src/lib.rt:97:10
 slice-aggregate-same : tie.Need-slice-aggregate-same
 slice-aggregate-same c = sym (length-take-le _ _ (traced (c .before .before)))
 
--- src/lib.rt:97:22
 array-share-prefix-own-2 : tie.Need-array-share-prefix-own-2
 array-share-prefix-own-2 c = written (c .before .before .before .before .before .before .before .before .before .before)
 
--- src/lib.rt:97:22
 slice-aggregate-same-2 : tie.Need-slice-aggregate-same-2
 slice-aggregate-same-2 c = sym (length-take-le _ _ (written (c .before .before .before .before .before .before .before .before .before .before .before)))
 
--- src/lib.rt:97:5
 same-requires : tie.Need-same-requires
 same-requires c κs = search needs
 
--- src/lib.rt:82:1
 returns-2 : tie.Need-returns-2
 returns-2 c = traced-alike _ _ _ _ _ _ (c .before .before .before .before .before .before .before .before .before .before .before .before .before .before .before .before .before .before .before .before .before .before .before .pre .0) (c .before .before .before .before .before .before .before .before .before .before .before .before .before .before .before .before .before .before .before .before .before .before .before .pre .1) _ (c .before .before .before .before .before .before .before .before .before .before .before .before .own-word .ensures .1 .0) _ _ (c .before .before .before .before .trace .ensures .1 .0) (c .same .ensures)
 

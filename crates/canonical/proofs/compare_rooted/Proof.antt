@@ -1,3 +1,4 @@
+-- `compare_rooted` meets its contract: the two checks in turn, then the test of two accepted diagrams.
 use borrow.Author.Needs.{needs}
 use mathlib.Core.Path.{refl, sym, _∙_}
 use mathlib.Core.Logic.{inl, inr}
@@ -6,10 +7,6 @@ use denote.Ref.{now}
 use Rattle.diagrams.specs.Check.{Accepts}
 use Rattle.canonical.proofs.compare_rooted.Statement.{statement}
 use Rattle.canonical.proofs.compare_rooted.Tie as tie
-use Rattle.canonical.proofs.compare_rooted.Reads as reads
-use Rattle.canonical.proofs.compare_rooted.Lts as lts
-use Rattle.canonical.proofs.alike_rooted.Reads as alike-rooted-reads
-use Rattle.diagrams.proofs.check.Reads as check-reads
 
 -- both diagrams are accepted
 first-accepted : (c : tie.After-enum-told) → Accepts (now (c .before .before .before .before .before .before .before .args .s0)) (now (c .before .before .before .before .before .before .before .args .s1)) (c .before .before .before .before .before .before .before .args .r)
@@ -18,47 +15,36 @@ first-accepted c = rw (c .enum-told .given .1) at (c .before .before .check .ens
 second-accepted : (c : tie.After-enum-told2) → Accepts (now (c .before .before .before .before .before .before .before .before .before .before .args .t0)) (now (c .before .before .before .before .before .before .before .before .before .before .args .t1)) (c .before .before .before .before .before .before .before .before .before .before .args .q)
 second-accepted c = rw (c .enum-told2 .given .1) at (c .before .before .check2 .ensures)
 
--- src/lib.rt:122:9
 check-requires : tie.Need-check-requires
 check-requires c κs = search needs
 
--- src/lib.rt:124:26
 enum-known-first : tie.Need-enum-known-first
 enum-known-first c = search needs
 
--- src/lib.rt:126:17
 enum-told : tie.Need-enum-told
 enum-told c = search needs
 
--- src/lib.rt:126:17
 check-requires-2 : tie.Need-check-requires-2
 check-requires-2 c κs = search needs
 
--- src/lib.rt:128:34
 enum-known-second : tie.Need-enum-known-second
 enum-known-second c = search needs
 
--- src/lib.rt:130:24
 enum-told-2 : tie.Need-enum-told-2
 enum-told-2 c = search needs
 
--- src/lib.rt:130:24
 alike-rooted-requires : tie.Need-alike-rooted-requires
 alike-rooted-requires c κs = (first-accepted (c .before .before .before), second-accepted c)
 
--- src/lib.rt:119:1
 returns : tie.Need-returns
 returns c = inl (refl, rw (c .before .first .given .1) at (c .before .before .before .check .ensures))
 
--- src/lib.rt:119:1
 returns-2 : tie.Need-returns-2
 returns-2 c = inr (refl, first-accepted (c .before .before .before .before), rw (c .before .second .given .1) at (c .before .before .before .check2 .ensures))
 
--- src/lib.rt:119:1
 returns-3 : tie.Need-returns-3
 returns-3 c = (first-accepted (c .before .before .before .before .before), second-accepted (c .before .before), c .before .alike-rooted .ensures .0 (c .if1 .taken))
 
--- src/lib.rt:119:1
 returns-4 : tie.Need-returns-4
 returns-4 c = (first-accepted (c .before .before .before .before .before), second-accepted (c .before .before), λ i. true≢false (sym (c .before .alike-rooted .ensures .1 i) ∙ c .if1 .left))
 

@@ -1,17 +1,14 @@
+-- `compare_unrooted` meets its contract: the two checks in turn, then the test of two accepted diagrams.
 use borrow.Author.Needs.{needs}
 use mathlib.Core.Path.{refl, sym, _∙_}
 use mathlib.Core.Logic.{inl, inr}
 use mathlib.Core.Bool.{true≢false}
-use denote.Ref.{now}
 use native.Mathlib.Omega.{arith}
-use Rattle.labelling.proofs.Rootings.{accepts-rerooted}
+use denote.Ref.{now}
 use Rattle.diagrams.specs.Check.{Accepts}
+use Rattle.labelling.proofs.Rootings.{accepts-rerooted}
 use Rattle.canonical.proofs.compare_unrooted.Statement.{statement}
 use Rattle.canonical.proofs.compare_unrooted.Tie as tie
-use Rattle.canonical.proofs.compare_unrooted.Reads as reads
-use Rattle.canonical.proofs.compare_unrooted.Lts as lts
-use Rattle.canonical.proofs.alike_unrooted.Reads as alike-unrooted-reads
-use Rattle.diagrams.proofs.check.Reads as check-reads
 
 -- both diagrams are accepted
 first-accepted : (c : tie.After-enum-told) → Accepts (now (c .before .before .before .before .before .before .before .args .s0)) (now (c .before .before .before .before .before .before .before .args .s1)) (c .before .before .before .before .before .before .before .args .r)
@@ -20,50 +17,39 @@ first-accepted c = rw (c .enum-told .given .1) at (c .before .before .check .ens
 second-accepted : (c : tie.After-enum-told2) → Accepts (now (c .before .before .before .before .before .before .before .before .before .before .args .t0)) (now (c .before .before .before .before .before .before .before .before .before .before .args .t1)) (c .before .before .before .before .before .before .before .before .before .before .args .q)
 second-accepted c = rw (c .enum-told2 .given .1) at (c .before .before .check2 .ensures)
 
--- src/lib.rt:145:9
 check-requires : tie.Need-check-requires
 check-requires c κs = search needs
 
--- src/lib.rt:147:26
 enum-known-first : tie.Need-enum-known-first
 enum-known-first c = search needs
 
--- src/lib.rt:149:17
 enum-told : tie.Need-enum-told
 enum-told c = search needs
 
--- src/lib.rt:149:17
 check-requires-2 : tie.Need-check-requires-2
 check-requires-2 c κs = search needs
 
--- src/lib.rt:151:34
 enum-known-second : tie.Need-enum-known-second
 enum-known-second c = search needs
 
--- src/lib.rt:153:24
 enum-told-2 : tie.Need-enum-told-2
 enum-told-2 c = search needs
 
--- src/lib.rt:153:24
 alike-unrooted-requires : tie.Need-alike-unrooted-requires
 alike-unrooted-requires c κs =
     let a = first-accepted (c .before .before .before) in
     let n = a .size in
     (accepts-rerooted _ _ _ a 1 (omega arith), second-accepted c)
 
--- src/lib.rt:142:1
 returns : tie.Need-returns
 returns c = inl (refl, rw (c .before .first .given .1) at (c .before .before .before .check .ensures))
 
--- src/lib.rt:142:1
 returns-2 : tie.Need-returns-2
 returns-2 c = inr (refl, first-accepted (c .before .before .before .before), rw (c .before .second .given .1) at (c .before .before .before .check2 .ensures))
 
--- src/lib.rt:142:1
 returns-3 : tie.Need-returns-3
 returns-3 c = (first-accepted (c .before .before .before .before .before), second-accepted (c .before .before), c .before .alike-unrooted .ensures .0 (c .if1 .taken))
 
--- src/lib.rt:142:1
 returns-4 : tie.Need-returns-4
 returns-4 c = (first-accepted (c .before .before .before .before .before), second-accepted (c .before .before), λ i. true≢false (sym (c .before .alike-unrooted .ensures .1 i) ∙ c .if1 .left))
 

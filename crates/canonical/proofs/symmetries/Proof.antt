@@ -1,32 +1,23 @@
+-- `symmetries` meets its contract: what check refuses is refused, and the rest counted.
 use borrow.Author.Needs.{needs}
 use Rattle.canonical.proofs.symmetries.Statement.{statement}
 use Rattle.canonical.proofs.symmetries.Tie as tie
-use Rattle.canonical.proofs.symmetries.Reads as reads
-use Rattle.canonical.proofs.symmetries.Lts as lts
-use Rattle.canonical.proofs.symmetries_accepted.Reads as symmetries-accepted-reads
-use Rattle.diagrams.proofs.check.Reads as check-reads
 
--- src/lib.rt:179:9
 check-requires : tie.Need-check-requires
 check-requires c κs = search needs
 
--- src/lib.rt:181:26
 enum-known-verdict : tie.Need-enum-known-verdict
 enum-known-verdict c = search needs
 
--- src/lib.rt:182:46
 enum-told : tie.Need-enum-told
 enum-told c = search needs
 
--- src/lib.rt:182:46
 symmetries-accepted-requires : tie.Need-symmetries-accepted-requires
 symmetries-accepted-requires c κs = rw (c .enum-told .given .1) at (c .before .before .check .ensures)
 
--- src/lib.rt:176:1
 returns : tie.Need-returns
 returns c = rw (c .before .verdict .given .1) at (c .before .before .before .check .ensures)
 
--- src/lib.rt:176:1
 returns-2 : tie.Need-returns-2
 returns-2 c = (rw (c .before .enum-told .given .1) at (c .before .before .before .check .ensures), c .symmetries-accepted .ensures)
 

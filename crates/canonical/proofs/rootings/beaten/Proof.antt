@@ -1,23 +1,17 @@
+-- `beaten` meets its contract: the lesser of the two comes before own exactly if the second does.
 use borrow.Author.Needs.{needs}
 use mathlib.Core.Path.{_∙_}
 use denote.Ref.{now}
 use Rattle.canonical.proofs.Sameness.{lesser-beaten}
 use Rattle.canonical.proofs.rootings.beaten.Statement.{statement}
 use Rattle.canonical.proofs.rootings.beaten.Tie as tie
-use Rattle.canonical.proofs.rootings.beaten.Reads as reads
-use Rattle.canonical.proofs.rootings.beaten.Lts as lts
-use Rattle.words.proofs.lesser.Reads as lesser-reads
-use Rattle.words.proofs.precedes.Reads as precedes-reads
 
--- src/rootings.rt:36:9
 lesser-requires : tie.Need-lesser-requires
 lesser-requires c κs = search needs
 
--- src/rootings.rt:37:5
 precedes-requires : tie.Need-precedes-requires
 precedes-requires c κs = search needs
 
--- src/rootings.rt:33:1
 returns : tie.Need-returns
 returns c = c .precedes .ensures ∙ rw (c .before .lesser .ensures .1) (lesser-beaten (now (c .before .before .before .before .args .own)) (now (c .before .before .before .before .args .c)))
 

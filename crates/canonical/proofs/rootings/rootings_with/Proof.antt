@@ -1,23 +1,20 @@
+-- `rootings_with` meets its contract. The loop's invariant: the count is that of the rootings 1..x.
 use borrow.Author.Needs.{needs}
-use Prim.Native.Nat.{ℕ, _+_, _-_, _≤_, _<_}
+use mathlib.Core.Path.{_≡_, refl, sym, _∙_}
+use mathlib.Core.Bool.{true, false}
+use Prim.Native.Nat.{_+_, _-_, _≤_}
 use native.Mathlib.Omega.{arith}
 use denote.Ref.{now}
 use lib.ListN.{length}
 use lib.Seq.{length-take-le}
-use mathlib.Core.Path.{_≡_, refl, sym, ap, _∙_}
-use mathlib.Core.Bool.{true, false}
-use Rattle.canonical.proofs.Tried.{Tried, tally-few, tally-more}
-use Rattle.canonical.specs.Among.{rootingsWith}
-use Rattle.labelling.specs.Rootings.{same}
 use Rattle.lists.specs.Ranges.{tally}
-use Rattle.labelling.proofs.Rootings.{accepts-rerooted}
 use Rattle.labelling.specs.Labelling.{wordOf}
+use Rattle.labelling.specs.Rootings.{same}
+use Rattle.labelling.proofs.Rootings.{accepts-rerooted}
+use Rattle.canonical.specs.Among.{rootingsWith}
+use Rattle.canonical.proofs.Tried.{Tried, tally-few, tally-more}
 use Rattle.canonical.proofs.rootings.rootings_with.Statement.{statement}
 use Rattle.canonical.proofs.rootings.rootings_with.Tie as tie
-use Rattle.canonical.proofs.rootings.rootings_with.Reads as reads
-use Rattle.canonical.proofs.rootings.rootings_with.Lts as lts
-use Rattle.canonical.proofs.rootings.same.Reads as same-reads
-use Rattle.labelled.proofs.tracing.trace.Reads as trace-reads
 
 abbrev Inv-loop : tie.InvT-loop
 Inv-loop s0 s1 labels₀ order₀ next₀ prev₀ own cand₀ n found₀ x₀ labels order next prev cand found x = Tried s0 n labels order next prev cand₀ cand x × (found ≡ tally x (λ y. same (wordOf s0 s1 y) own))
@@ -36,22 +33,18 @@ written c =
     let l = c .before .before .before .before .before .before .before .before .before .before .before .before .pre .1 .1 in
     omega arith
 
--- src/rootings.rt:118:5
 loop-holds : tie.Need-loop-holds Inv-loop μ-loop
 loop-holds c = (record { size-is = refl; within = search needs; ready = c .before .before .before .before .pre .1 .0; long = refl }, refl)
 
--- src/rootings.rt:119:9
 add-x : tie.Need-add-x Inv-loop μ-loop
 add-x c = search needs
 
--- src/rootings.rt:120:58
 cast-trace : tie.Need-cast-trace Inv-loop μ-loop
 cast-trace c =
     let n = c .before .before .before .before .before .before .before .before .before .before .pre .0 .size in
     let t = c .before .before .before .before .before .loop .inv .0 .size-is in
     omega arith
 
--- src/rootings.rt:120:13
 trace-requires : tie.Need-trace-requires Inv-loop μ-loop
 trace-requires c κs =
     let t = c .before .before .before .before .before .before .loop .inv .0 in
@@ -60,19 +53,15 @@ trace-requires c κs =
     let m = t .long in
     (accepts-rerooted _ _ 1 (c .before .before .before .before .before .before .before .before .before .before .before .pre .0) (c .before .before .before .before .before .before .loop .x + 1) (omega arith), (t .ready, omega arith))
 
--- src/rootings.rt:121:17
 slice-reshare-prefix-same : tie.Need-slice-reshare-prefix-same Inv-loop μ-loop
 slice-reshare-prefix-same c = written (c .before .before)
 
--- src/rootings.rt:121:17
 slice-aggregate-same : tie.Need-slice-aggregate-same Inv-loop μ-loop
 slice-aggregate-same c = sym (length-take-le _ _ (written (c .before .before .before)))
 
--- src/rootings.rt:121:12
 same-requires : tie.Need-same-requires Inv-loop μ-loop
 same-requires c κs = search needs
 
--- src/rootings.rt:122:13
 add-found : tie.Need-add-found Inv-loop μ-loop
 add-found c =
     let i = tally-few (c .before .before .before .before .before .before .before .before .before .before .before .before .loop .x) (λ y. same (wordOf (now (c .before .before .before .before .before .before .before .before .before .before .before .before .before .before .before .before .before .args .s0)) (now (c .before .before .before .before .before .before .before .before .before .before .before .before .before .before .before .before .before .args .s1)) y) (now (c .before .before .before .before .before .before .before .before .before .before .before .before .before .before .before .before .before .args .own))) in
@@ -81,33 +70,27 @@ add-found c =
     let e = c .before .before .before .before .before .before .before .before .before .before .before .before .loop .inv .1 in
     omega arith
 
--- src/rootings.rt:118:5
 loop-less : tie.Need-loop-less Inv-loop μ-loop
 loop-less c = search needs
 
--- src/rootings.rt:118:5
 loop-again : tie.Need-loop-again Inv-loop μ-loop
 loop-again c = (
   record { size-is = c .before .before .before .before .before .before .before .before .before .before .before .before .loop .inv .0 .size-is; within = search needs; ready = c .before .before .before .before .before .trace .ensures .1 .1; long = length-kept (c .before .before .before .before .before) },
   (let e = tally-more _ _ _ _ (c .before .before .before .before .before .before .before .before .before .before .before .before .loop .x) (c .before .before .before .before .before .trace .ensures .1 .0) true (sym (c .before .same .ensures) ∙ c .if1 .taken) in let f = c .before .before .before .before .before .before .before .before .before .before .before .before .loop .inv .1 in omega arith),
 )
 
--- src/rootings.rt:118:5
 loop-less-2 : tie.Need-loop-less-2 Inv-loop μ-loop
 loop-less-2 c = search needs
 
--- src/rootings.rt:118:5
 loop-again-2 : tie.Need-loop-again-2 Inv-loop μ-loop
 loop-again-2 c = (
   record { size-is = c .before .before .before .before .before .before .before .before .before .before .before .before .loop .inv .0 .size-is; within = search needs; ready = c .before .before .before .before .before .trace .ensures .1 .1; long = length-kept (c .before .before .before .before .before) },
   (let e = tally-more _ _ _ _ (c .before .before .before .before .before .before .before .before .before .before .before .before .loop .x) (c .before .before .before .before .before .trace .ensures .1 .0) false (sym (c .before .same .ensures) ∙ c .if1 .left) in let f = c .before .before .before .before .before .before .before .before .before .before .before .before .loop .inv .1 in omega arith),
 )
 
--- src/rootings.rt:99:1
 same-length : tie.Need-same-length Inv-loop μ-loop
 same-length c = c .before .loop .inv .0 .long
 
--- src/rootings.rt:99:1
 returns : tie.Need-returns Inv-loop μ-loop
 unfolding rootingsWith
 returns c =

@@ -1,15 +1,14 @@
+-- `same` meets its contract. The loop's invariant: what is left of both words decides.
 use borrow.Author.Needs.{needs}
 use mathlib.Core.Path.{_≡_, refl, sym, ap, _∙_}
 use Prim.Native.Nat.{_-_, _≤_}
 use native.Mathlib.Omega.{arith}
-use lib.ListN.{length, drop}
 use denote.Ref.{now}
-use Rattle.canonical.proofs.Sameness.{same-false, same-from, same-by, same-over}
+use lib.ListN.{length, drop}
 use Rattle.labelling.specs.Rootings.{same}
+use Rattle.canonical.proofs.Sameness.{same-false, same-from, same-by, same-over}
 use Rattle.canonical.proofs.rootings.same.Statement.{statement}
 use Rattle.canonical.proofs.rootings.same.Tie as tie
-use Rattle.canonical.proofs.rootings.same.Reads as reads
-use Rattle.canonical.proofs.rootings.same.Lts as lts
 
 abbrev Inv-loop : tie.InvT-loop
 Inv-loop a b i₀ i = (i ≤ length a) × (same a b ≡ same (drop i a) (drop i b))
@@ -17,47 +16,36 @@ Inv-loop a b i₀ i = (i ≤ length a) × (same a b ≡ same (drop i a) (drop i 
 abbrev μ-loop : tie.MeasureT-loop
 μ-loop a b i₀ i = length a - i
 
--- src/rootings.rt:20:9
 returns : tie.Need-returns Inv-loop μ-loop
 returns c = sym (same-false (now (c .before .args .a)) (now (c .before .args .b)) (λ e. c .if1 .taken (ap length e)))
 
--- src/rootings.rt:23:5
 loop-holds : tie.Need-loop-holds Inv-loop μ-loop
 loop-holds c = (search needs, refl)
 
--- src/rootings.rt:24:12
 mul-if2 : tie.Need-mul-if2 Inv-loop μ-loop
 mul-if2 c = search needs
 
--- src/rootings.rt:24:12
 shared-slice-read-if2 : tie.Need-shared-slice-read-if2 Inv-loop μ-loop
 shared-slice-read-if2 c = search needs
 
--- src/rootings.rt:24:20
 mul-if2-2 : tie.Need-mul-if2-2 Inv-loop μ-loop
 mul-if2-2 c = search needs
 
--- src/rootings.rt:24:20
 shared-slice-read-if2-2 : tie.Need-shared-slice-read-if2-2 Inv-loop μ-loop
 shared-slice-read-if2-2 c = search needs
 
--- src/rootings.rt:25:13
 returns-2 : tie.Need-returns-2 Inv-loop μ-loop
 returns-2 c = sym (c .before .before .before .before .loop .inv .1 ∙ same-by _ _ _ (c .before .before .before .loop-test .taken) (let e = c .before .before .before .before .before .if1 .left in omega arith) (c .if2 .taken))
 
--- src/rootings.rt:27:9
 add-i : tie.Need-add-i Inv-loop μ-loop
 add-i c = search needs
 
--- src/rootings.rt:23:5
 loop-less : tie.Need-loop-less Inv-loop μ-loop
 loop-less c = search needs
 
--- src/rootings.rt:23:5
 loop-again : tie.Need-loop-again Inv-loop μ-loop
 loop-again c = (search needs, c .before .before .before .before .loop .inv .1 ∙ same-from _ _ _ (c .before .before .before .loop-test .taken) (let e = c .before .before .before .before .before .if1 .left in omega arith) (c .if2 .left))
 
--- src/rootings.rt:16:1
 returns-3 : tie.Need-returns-3 Inv-loop μ-loop
 returns-3 c = sym (c .before .loop .inv .1 ∙ same-over _ _ _ (c .loop-test .left) (let e = c .before .before .if1 .left in omega arith))
 

@@ -1,23 +1,20 @@
+-- `some_rooting` meets its contract. The loop's invariant: no word of the rootings 1..x is own.
 use borrow.Author.Needs.{needs}
-use Prim.Native.Nat.{ℕ, _+_, _-_, _≤_, _<_}
+use mathlib.Core.Path.{_≡_, refl, sym, _∙_}
+use mathlib.Core.Logic.{_≢_}
+use mathlib.Core.Bool.{true≢false}
+use Prim.Native.Nat.{ℕ, _+_, _-_, _≤_}
 use native.Mathlib.Omega.{arith}
 use denote.Ref.{now}
 use lib.ListN.{length}
 use lib.Seq.{length-take-le}
-use mathlib.Core.Path.{_≡_, refl, sym, ap, _∙_}
-use mathlib.Core.Logic.{_≢_}
-use mathlib.Core.Bool.{true≢false}
-use Rattle.canonical.proofs.Tried.{Tried, unlike-more, some-found}
-use Rattle.canonical.specs.Among.{SomeRooting}
 use Rattle.lists.specs.Ranges.{Edge}
-use Rattle.labelling.proofs.Rootings.{accepts-rerooted}
 use Rattle.labelling.specs.Labelling.{wordOf}
+use Rattle.labelling.proofs.Rootings.{accepts-rerooted}
+use Rattle.canonical.specs.Among.{SomeRooting}
+use Rattle.canonical.proofs.Tried.{Tried, unlike-more, some-found}
 use Rattle.canonical.proofs.rootings.some_rooting.Statement.{statement}
 use Rattle.canonical.proofs.rootings.some_rooting.Tie as tie
-use Rattle.canonical.proofs.rootings.some_rooting.Reads as reads
-use Rattle.canonical.proofs.rootings.some_rooting.Lts as lts
-use Rattle.canonical.proofs.rootings.same.Reads as same-reads
-use Rattle.labelled.proofs.tracing.trace.Reads as trace-reads
 
 abbrev Inv-loop : tie.InvT-loop
 Inv-loop s0 s1 labels₀ order₀ next₀ prev₀ own cand₀ n x₀ labels order next prev cand x = Tried s0 n labels order next prev cand₀ cand x × ((y : ℕ) → Edge x y → wordOf s0 s1 y ≢ own)
@@ -36,22 +33,18 @@ written c =
     let l = c .before .before .before .before .before .before .before .before .before .before .before .before .pre .1 .1 in
     omega arith
 
--- src/rootings.rt:88:5
 loop-holds : tie.Need-loop-holds Inv-loop μ-loop
 loop-holds c = (record { size-is = refl; within = search needs; ready = c .before .before .before .before .pre .1 .0; long = refl }, λ y e. absurd (omega arith))
 
--- src/rootings.rt:89:9
 add-x : tie.Need-add-x Inv-loop μ-loop
 add-x c = search needs
 
--- src/rootings.rt:90:58
 cast-trace : tie.Need-cast-trace Inv-loop μ-loop
 cast-trace c =
     let n = c .before .before .before .before .before .before .before .before .before .before .pre .0 .size in
     let t = c .before .before .before .before .before .loop .inv .0 .size-is in
     omega arith
 
--- src/rootings.rt:90:13
 trace-requires : tie.Need-trace-requires Inv-loop μ-loop
 trace-requires c κs =
     let t = c .before .before .before .before .before .before .loop .inv .0 in
@@ -60,45 +53,36 @@ trace-requires c κs =
     let m = t .long in
     (accepts-rerooted _ _ 1 (c .before .before .before .before .before .before .before .before .before .before .before .pre .0) (c .before .before .before .before .before .before .loop .x + 1) (omega arith), (t .ready, omega arith))
 
--- src/rootings.rt:91:17
 slice-reshare-prefix-same : tie.Need-slice-reshare-prefix-same Inv-loop μ-loop
 slice-reshare-prefix-same c = written (c .before .before)
 
--- src/rootings.rt:91:17
 slice-aggregate-same : tie.Need-slice-aggregate-same Inv-loop μ-loop
 slice-aggregate-same c = sym (length-take-le _ _ (written (c .before .before .before)))
 
--- src/rootings.rt:91:12
 same-requires : tie.Need-same-requires Inv-loop μ-loop
 same-requires c κs = search needs
 
--- src/rootings.rt:92:13
 same-length : tie.Need-same-length Inv-loop μ-loop
 same-length c = length-kept (c .before .before .before .before .before)
 
--- src/rootings.rt:92:13
 returns : tie.Need-returns Inv-loop μ-loop
 returns c = (
   (λ _. some-found _ _ _ _ (c .before .before .before .before .before .before .before .before .before .before .before .before .loop .x) (c .before .before .before .before .before .trace .ensures .1 .0) (search needs) (sym (c .before .same .ensures) ∙ c .if1 .taken), λ _. refl),
   c .before .before .before .before .before .trace .ensures .1 .1,
 )
 
--- src/rootings.rt:88:5
 loop-less : tie.Need-loop-less Inv-loop μ-loop
 loop-less c = search needs
 
--- src/rootings.rt:88:5
 loop-again : tie.Need-loop-again Inv-loop μ-loop
 loop-again c = (
   record { size-is = c .before .before .before .before .before .before .before .before .before .before .before .before .loop .inv .0 .size-is; within = search needs; ready = c .before .before .before .before .before .trace .ensures .1 .1; long = length-kept (c .before .before .before .before .before) },
   unlike-more _ _ _ _ (c .before .before .before .before .before .before .before .before .before .before .before .before .loop .x) (c .before .before .before .before .before .trace .ensures .1 .0) (c .before .before .before .before .before .before .before .before .before .before .before .before .loop .inv .1) (sym (c .before .same .ensures) ∙ c .if1 .left),
 )
 
--- src/rootings.rt:70:1
 same-length-2 : tie.Need-same-length-2 Inv-loop μ-loop
 same-length-2 c = c .before .loop .inv .0 .long
 
--- src/rootings.rt:70:1
 returns-2 : tie.Need-returns-2 Inv-loop μ-loop
 unfolding SomeRooting
 returns-2 c =
