@@ -1,8 +1,8 @@
 -- What relabel has written is the word and the characteristic labelling.
-use mathlib.Core.Path.{_≡_, sym, _∙_}
+use mathlib.Core.Path.{_≡_}
 use mathlib.Core.Logic.{⊎-elim}
 use mathlib.Core.List.{List, _++_}
-use Prim.Native.Nat.{ℕ, suc, _≤_, _<_}
+use Prim.Native.Nat.{ℕ, _≤_, _<_}
 use native.Mathlib.Omega.{arith}
 use lib.ListN.{length, drop}
 use Rattle.lists.specs.Lists.{at, listed}
@@ -10,7 +10,7 @@ use Rattle.lists.proofs.Lists.{length-listed}
 use Rattle.diagrams.specs.Check.{Accepts}
 use Rattle.labelling.specs.Labelling.{relabel, labels, characteristic}
 use Rattle.labelled.specs.Scratch.{Holds, Wrote}
-use Rattle.canonical.specs.Promises.{Short, Written, Relabelled}
+use Rattle.canonical.specs.Promises.{Short, Relabelled}
 use Rattle.canonical.specs.declared.Relabelling.the-variants as relabelling
 
 pub not-short : (n : ℕ) (a0 a1 aw : List ℕ) → n ≤ length a0 → n ≤ length a1 → n < length aw → ¬ Short n a0 a1 aw

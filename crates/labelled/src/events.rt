@@ -2,7 +2,7 @@
 // of each label) and the pending ring, which holds edges. Nothing of the size limit is cleared or copied for one labelling.
 use lists::wide;
 ghost use mathlib.Core.Path.{_≡_};
-ghost use mathlib.Core.List.{List, [], _∷_};
+ghost use mathlib.Core.List.{List, _∷_};
 ghost use Prim.Native.Nat.{ℕ, suc, _+_, _<_, _≤_};
 ghost use lib.ListN.{length};
 ghost use Rattle.lists.specs.Lists.{at, Has, find, cut};
