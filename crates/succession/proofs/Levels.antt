@@ -1,0 +1,101 @@
+-- Levels: an item that can be read leads to the level of what fits after it, and `ends` tells whether anything does.
+use mathlib.Core.Path.{_≡_, refl, sym, ap, _∙_}
+use mathlib.Core.Logic.{_⊎_, inl, inr}
+use mathlib.Core.Bool.{Bool, true, false, true≢false}
+use mathlib.Core.List.{List, [], _∷_}
+use Prim.Native.Nat.{ℕ, zero, suc, _+_, _≤_, _<_}
+use native.Mathlib.Nat.{not-suc-le-zero}
+use native.Mathlib.Omega.{arith}
+use lib.Dec.{ltb}
+use Rattle.lists.specs.Lists.{pick}
+use Rattle.lists.proofs.Tests.{lt?, lt-true, lt-false, ltb-true}
+use Rattle.words.specs.Shape.{pre, less1, less3, Fits, Word}
+use Rattle.counting.proofs.Tails.{pre-le}
+use Rattle.succession.specs.declared.Level.{Level}
+use Rattle.succession.specs.Succession.{level, stuck, after, start, ends, leads}
+
+-- what fits from a level on
+abbrev pub From : Level → List ℕ → Type 0
+From l w = Fits (l .height) (l .free) w
+
+pub stuck-none : (w : List ℕ) → ¬ From stuck w
+stuck-none [] a = a
+stuck-none (x ∷ w) a = a
+
+pub fits-after : (h f x : ℕ) (w : List ℕ) → Fits h f (x ∷ w) → From (after h f x) w
+fits-after zero f x w a = absurd a
+fits-after (suc h) f zero w a = a
+fits-after (suc h) zero (suc zero) w a = absurd a
+fits-after (suc h) (suc zero) (suc zero) w a = absurd a
+fits-after (suc h) (suc (suc zero)) (suc zero) w a = absurd a
+fits-after (suc h) (suc (suc (suc f))) (suc zero) w a = a
+fits-after (suc h) zero (suc (suc zero)) w a = absurd a
+fits-after (suc h) (suc f) (suc (suc zero)) w a = a
+fits-after (suc h) f (suc (suc (suc d))) w a = rw (lt-true d h (a .0)) (a .1)
+
+pub after-fits : (h f x : ℕ) (w : List ℕ) → From (after h f x) w → Fits h f (x ∷ w)
+after-fits zero f x w a = absurd (stuck-none w a)
+after-fits (suc h) f zero w a = a
+after-fits (suc h) zero (suc zero) w a = absurd (stuck-none w a)
+after-fits (suc h) (suc zero) (suc zero) w a = absurd (stuck-none w a)
+after-fits (suc h) (suc (suc zero)) (suc zero) w a = absurd (stuck-none w a)
+after-fits (suc h) (suc (suc (suc f))) (suc zero) w a = a
+after-fits (suc h) zero (suc (suc zero)) w a = absurd (stuck-none w a)
+after-fits (suc h) (suc f) (suc (suc zero)) w a = a
+after-fits (suc h) f (suc (suc (suc d))) w a = go (ltb d h) refl a
+  where
+    go : (b : Bool) → ltb d h ≡ b → From (pick b (level (pre h) f) stuck) w → (d < h) × Fits (pre h) f w
+    go true e a = (ltb-true d h e, a)
+    go false e a = absurd (stuck-none w a)
+
+pub word-start : (n x : ℕ) (w : List ℕ) → Word n (x ∷ w) → From (start n x) w
+word-start zero zero w a = absurd a
+word-start (suc n) zero w a = a
+word-start zero (suc zero) w a = absurd a
+word-start (suc zero) (suc zero) w a = absurd a
+word-start (suc (suc zero)) (suc zero) w a = absurd a
+word-start (suc (suc (suc n))) (suc zero) w a = a
+word-start n (suc (suc x)) w a = absurd a
+
+pub start-word : (n x : ℕ) (w : List ℕ) → From (start n x) w → Word n (x ∷ w)
+start-word zero zero w a = absurd (stuck-none w a)
+start-word (suc n) zero w a = a
+start-word zero (suc zero) w a = absurd (stuck-none w a)
+start-word (suc zero) (suc zero) w a = absurd (stuck-none w a)
+start-word (suc (suc zero)) (suc zero) w a = absurd (stuck-none w a)
+start-word (suc (suc (suc n))) (suc zero) w a = a
+start-word n (suc (suc x)) w a = absurd (stuck-none w a)
+
+-- from a dead end nothing fits
+pub dead : (h f : ℕ) → ends h f ≡ false → (w : List ℕ) → ¬ Fits h f w
+dead zero zero e w a = true≢false e
+dead zero (suc f) e [] a = a
+dead zero (suc f) e (x ∷ w) a = a
+dead (suc zero) zero e w a = true≢false e
+dead (suc zero) (suc zero) e w a = true≢false e
+dead (suc zero) (suc (suc zero)) e [] a = a
+dead (suc zero) (suc (suc zero)) e (zero ∷ []) a = a
+dead (suc zero) (suc (suc zero)) e (zero ∷ x ∷ w) a = a
+dead (suc zero) (suc (suc zero)) e (suc zero ∷ w) a = a
+dead (suc zero) (suc (suc zero)) e (suc (suc zero) ∷ []) a = a
+dead (suc zero) (suc (suc zero)) e (suc (suc zero) ∷ x ∷ w) a = a
+dead (suc zero) (suc (suc zero)) e (suc (suc (suc d)) ∷ w) a = not-suc-le-zero (a .0)
+dead (suc zero) (suc (suc (suc f))) e w a = true≢false e
+dead (suc (suc h)) f e w a = true≢false e
+
+-- an item uses up a pending or a free label
+pub leads-less : (h f x : ℕ) → leads h f x ≡ true → after h f x .height + after h f x .free < h + f
+unfolding leads
+leads-less zero f x e = absurd (true≢false (sym e))
+leads-less (suc h) f zero e = omega arith
+leads-less (suc h) zero (suc zero) e = absurd (true≢false (sym e))
+leads-less (suc h) (suc zero) (suc zero) e = absurd (true≢false (sym e))
+leads-less (suc h) (suc (suc zero)) (suc zero) e = absurd (true≢false (sym e))
+leads-less (suc h) (suc (suc (suc f))) (suc zero) e = omega arith
+leads-less (suc h) zero (suc (suc zero)) e = absurd (true≢false (sym e))
+leads-less (suc h) (suc f) (suc (suc zero)) e = omega arith
+leads-less (suc h) f (suc (suc (suc d))) e = go (ltb d h) e
+  where
+    go : (b : Bool) → ends (pick b (level (pre h) f) stuck .height) (pick b (level (pre h) f) stuck .free) ≡ true → pick b (level (pre h) f) stuck .height + pick b (level (pre h) f) stuck .free < suc h + f
+    go true e = let i = pre-le h in omega arith
+    go false e = absurd (true≢false (sym e))

@@ -1,0 +1,120 @@
+-- `following` goes from position to position: from the word at a position to the one at the next. The listing is sorted, holds exactly the
+-- words of its size, and so what follows in dictionary order stands at the next place.
+use mathlib.Core.Path.{_≡_, refl, sym, ap, _∙_}
+use mathlib.Core.Logic.{_≢_, _⊎_, inl, inr}
+use mathlib.Core.List.{List, [], _∷_, List·Memᴰ, List·Memᴰ·not-nil, List·Memᴰ·cases-cons}
+use Prim.Native.Nat.{ℕ, zero, suc, _+_, _≤_, _<_}
+use native.Mathlib.Nat.{not-suc-le-zero, le-of-suc-le-suc}
+use native.Mathlib.Omega.{arith}
+use lib.ListN.{length, getD, List·getD-eq-default}
+use Rattle.lists.specs.Lists.{All}
+use Rattle.lists.proofs.Lists.{all-map}
+use Rattle.lists.proofs.Tests.{lt?, same?}
+use Rattle.words.specs.Order.{Before}
+use Rattle.words.specs.Shape.{Word}
+use Rattle.words.proofs.Order.{before-irrefl, before-antisym}
+use Rattle.counting.specs.Listing.{listing, count, Sorted}
+use Rattle.counting.specs.Position.{wordAt, nth}
+use Rattle.counting.proofs.Listing.{listing-sound, listing-complete, listing-sorted}
+use Rattle.succession.specs.Succession.{first, following}
+use Rattle.succession.proofs.Follows.{Follows, cons-not, words-follow, first-follows, first-not}
+
+-- ---- places of a list of words
+
+all-at : (P : List ℕ → Type 0) (ws : List (List ℕ)) (i : ℕ) → All P ws → i < length ws → P (getD ws i [])
+all-at P [] i a l = absurd (not-suc-le-zero l)
+all-at P (w ∷ ws) zero a l = a .0
+all-at P (w ∷ ws) (suc i) a l = all-at P ws i (a .1) (le-of-suc-le-suc l)
+
+sorted-at : (ws : List (List ℕ)) (i j : ℕ) → Sorted ws → i < j → j < length ws → Before (getD ws i []) (getD ws j [])
+sorted-at [] i j s l k = absurd (not-suc-le-zero k)
+sorted-at (w ∷ ws) i zero s l k = absurd (omega arith)
+sorted-at (w ∷ ws) zero (suc j) s l k = all-at (Before w) ws j (s .0) (le-of-suc-le-suc k)
+sorted-at (w ∷ ws) (suc i) (suc j) s l k = sorted-at ws i j (s .1) (omega arith) (le-of-suc-le-suc k)
+
+-- v stands in ws, at the place that the record names
+pub record Stands (v : List ℕ) (ws : List (List ℕ)) : Type 0 where
+  pub place : ℕ
+  pub within : place < length ws
+  pub is : getD ws place [] ≡ v
+
+stands : (v : List ℕ) (ws : List (List ℕ)) → List·Memᴰ v ws → Stands v ws
+stands v [] m = absurd (List·Memᴰ·not-nil m)
+stands v (w ∷ ws) m = go (List·Memᴰ·cases-cons m) (stands v ws)
+  where
+    go : (v ≡ w) ⊎ List·Memᴰ v ws → (List·Memᴰ v ws → Stands v ws) → Stands v (w ∷ ws)
+    go (inl e) k = record { place = 0; within = omega arith; is = sym e }
+    go (inr n) k = let s = k n in record { place = suc (s .place); within = let i = s .within in omega arith; is = s .is }
+
+-- in a sorted list that holds all of P and nothing else, what follows the word at a place stands at the next place
+next-place : (P : List ℕ → Type 0) (ws : List (List ℕ)) → Sorted ws → ((i : ℕ) → i < length ws → P (getD ws i [])) → ((v : List ℕ) → P v → Stands v ws)
+    → (i : ℕ) (v : List ℕ) → i < length ws → Follows P (getD ws i []) v → v ≡ getD ws (suc i) []
+next-place P ws s sound complete i v l F = go v F (lt? (suc i) (length ws))
+  where
+    -- what comes after the word at i stands beyond i
+    beyond : (j : ℕ) → j < length ws → Before (getD ws i []) (getD ws j []) → i < j
+    beyond j k b = by (lt? i j)
+      where
+        by : (i < j) ⊎ (j ≤ i) → i < j
+        by (inl a) = a
+        by (inr a) = by-same (same? i j)
+          where
+            by-same : (i ≡ j) ⊎ (i ≢ j) → i < j
+            by-same (inl e) = absurd (before-irrefl (getD ws j []) (rw e at b))
+            by-same (inr n) = absurd (before-antisym (getD ws i []) (getD ws j []) b (sorted-at ws j i s (omega arith) l))
+
+    go : (v : List ℕ) → Follows P (getD ws i []) v → (suc i < length ws) ⊎ (length ws ≤ suc i) → v ≡ getD ws (suc i) []
+    go [] F (inl k) = absurd (F .none refl (getD ws (suc i) []) (sound (suc i) k) (sorted-at ws i (suc i) s (omega arith) k))
+    go [] F (inr k) = sym (List·getD-eq-default ws [] k)
+    go (x ∷ v) F k = at (complete (x ∷ v) (F .some n .0))
+      where
+        n : (x ∷ v) ≢ []
+        n = cons-not x v
+
+        at : Stands (x ∷ v) ws → (x ∷ v) ≡ getD ws (suc i) []
+        at S = by (same? (suc i) (S .place))
+          where
+            far : i < S .place
+            far = beyond (S .place) (S .within) (rw (S .is) (F .some n .1))
+
+            by : (suc i ≡ S .place) ⊎ (suc i ≢ S .place) → (x ∷ v) ≡ getD ws (suc i) []
+            by (inl e) = rw e (sym (S .is))
+            by (inr d) =
+                let k : suc i < S .place = (let a = far in omega arith) in
+                let m : suc i < length ws = (let a = S .within in omega arith) in
+                absurd (F .nearest (getD ws (suc i) []) (sound (suc i) m) (sorted-at ws i (suc i) s (omega arith) m) (rw (S .is) at (sorted-at ws (suc i) (S .place) s k (S .within))))
+
+-- ---- positions of a size
+
+pub word-at : (n p : ℕ) → p < count n → Word n (wordAt n (suc p))
+unfolding wordAt count
+word-at n p l = all-at (Word n) (listing n) p (listing-sound n) l
+
+pub word-stands : (n : ℕ) (w : List ℕ) → Word n w → Stands w (listing n)
+word-stands n w a = stands w (listing n) (listing-complete n w a)
+
+-- the first word stands at the first place
+first-at : (n : ℕ) → 1 ≤ n → first n ≡ wordAt n 1
+unfolding wordAt
+first-at n l = go (S .place) (S .within) (S .is)
+  where
+    F : Follows (Word n) [] (first n)
+    F = first-follows n l
+
+    S : Stands (first n) (listing n)
+    S = word-stands n (first n) (F .some (first-not n) .0)
+
+    some : (u : List ℕ) → Word n u → Before [] u
+    some [] a = absurd a
+    some (x ∷ u) a = tt
+
+    go : (j : ℕ) → j < length (listing n) → getD (listing n) j [] ≡ first n → first n ≡ getD (listing n) 0 []
+    go zero k e = sym e
+    go (suc j) k e =
+        let u = all-at (Word n) (listing n) 0 (listing-sound n) (omega arith) in
+        absurd (F .nearest (getD (listing n) 0 []) u (some (getD (listing n) 0 []) u) (rw e at (sorted-at (listing n) 0 (suc j) (listing-sorted n) (omega arith) k)))
+
+pub following-at : (n p : ℕ) → 1 ≤ n → p ≤ count n → following n (wordAt n p) ≡ wordAt n (suc p)
+unfolding following wordAt count
+following-at n zero l k = first-at n l
+following-at n (suc p) l k = next-place (Word n) (listing n) (listing-sorted n) (λ i q. all-at (Word n) (listing n) i (listing-sound n) q) (word-stands n) p _ k (words-follow n _ (word-at n p k))

@@ -1,0 +1,26 @@
+use borrow.Author.Needs.{needs}
+use Rattle.succession.proofs.lead.Statement.{statement}
+use Rattle.succession.proofs.lead.Tie as tie
+use Rattle.succession.proofs.lead.Reads as reads
+use Rattle.succession.proofs.lead.Lts as lts
+use Rattle.succession.proofs.above.Reads as above-reads
+use Rattle.succession.proofs.leads.Reads as leads-reads
+
+-- src/lib.rt:175:8
+leads-requires : tie.Need-leads-requires
+leads-requires c κs = search needs
+
+-- src/lib.rt:176:9
+returns : tie.Need-returns
+returns c = ?
+
+-- src/lib.rt:178:5
+above-requires : tie.Need-above-requires
+above-requires c κs = search needs
+
+-- src/lib.rt:171:1
+returns-2 : tie.Need-returns-2
+returns-2 c = ?
+
+pub lead-spec : {M : Type 1} → statement M
+lead-spec = tie.close (tie.spec leads-requires returns above-requires returns-2)

@@ -1,0 +1,2 @@
+pub mod Succession
+pub mod Reading

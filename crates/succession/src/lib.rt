@@ -1,0 +1,305 @@
+// The word that follows a word in dictionary order among the words of its size, and whether a list is a word of a size at all. Both
+// go by the stack's height and the labels left, so that no diagram is made and no table is needed.
+use lists::fill;
+ghost use mathlib.Core.Path.{_≡_};
+ghost use mathlib.Core.Logic.{_⊎_};
+ghost use mathlib.Core.Bool.{true, false};
+ghost use mathlib.Core.List.{List, [], _∷_, _++_};
+ghost use Prim.Native.Nat.{ℕ, _+_, _≤_};
+ghost use lib.ListN.{length};
+ghost use Rattle.lists.specs.Ranges.{Edge};
+ghost use Rattle.words.specs.Shape.{Fits, Word};
+ghost use Rattle.succession.specs.Succession.{level, stuck, after, start, ends, leads, jump, better, above, lead, ending, following, padded, held};
+ghost use Rattle.succession.specs.Reading.{Read, Raises};
+
+// How many labels are pending, and how many are still free.
+pub struct Level {
+    pub height: u16,
+    pub free: u16,
+}
+
+// A word in the first places of 51, with zeros after it.
+pub struct Held {
+    pub length: usize,
+    pub items: [u16; 51],
+}
+
+// An item that can be raised: at `place` the event `event` takes its place and leads to a level. Event 0: no item can.
+struct Raise {
+    place: usize,
+    event: u16,
+    height: u16,
+    free: u16,
+}
+
+// Where an item that cannot be read leads: nothing ends from here.
+fn nowhere() -> Level
+    ensures { λ r. ⌜ r ≡ stuck ⌝ }
+{
+    Level { height: 0, free: 1 }
+}
+
+// The level after an item.
+fn after(height: u16, free: u16, item: u16) -> Level
+    requires { ⌜ height + free ≤ 50 ⌝ }
+    ensures { λ r. ⌜ r ≡ after height free item ⌝ }
+{
+    if height == 0 {
+        return nowhere();
+    }
+    if item == 0 {
+        return Level {
+            height: height - 1,
+            free,
+        };
+    }
+    if item == 1 {
+        if free < 3 {
+            return nowhere();
+        }
+        return Level {
+            height: height + 1,
+            free: free - 3,
+        };
+    }
+    if item == 2 {
+        if free == 0 {
+            return nowhere();
+        }
+        return Level {
+            height: height - 1,
+            free: free - 1,
+        };
+    }
+    if item - 3 < height - 1 {
+        Level {
+            height: height - 2,
+            free,
+        }
+    } else {
+        nowhere()
+    }
+}
+
+// The level after the first item, U or T.
+fn start(n: u16, item: u16) -> Level
+    ensures { λ r. ⌜ r ≡ start n item ⌝ }
+{
+    if item == 0 {
+        if n == 0 {
+            return nowhere();
+        }
+        return Level {
+            height: 1,
+            free: n - 1,
+        };
+    }
+    if item == 1 {
+        if n < 3 {
+            return nowhere();
+        }
+        return Level {
+            height: 3,
+            free: n - 3,
+        };
+    }
+    nowhere()
+}
+
+// Whether some items end the word from a level. Apart from an emptied stack, one pending label with two labels left is the only dead end.
+fn ends(height: u16, free: u16) -> bool
+    ensures { λ r. ⌜ r ≡ ends height free ⌝ }
+{
+    if height == 0 {
+        return free == 0;
+    }
+    if height == 1 {
+        return free != 2;
+    }
+    true
+}
+
+fn leads(height: u16, free: u16, item: u16) -> bool
+    requires { ⌜ height + free ≤ 50 ⌝ }
+    ensures { λ r. ⌜ r ≡ leads height free item ⌝ }
+{
+    let l = after(height, free, item);
+    ends(l.height, l.free)
+}
+
+// Whether an event lies above an item and leads to an end.
+fn better(height: u16, free: u16, item: u16, event: u16) -> bool
+    requires { ⌜ height + free ≤ 50 ⌝ }
+    ensures { λ r. ⌜ r ≡ better height free item event ⌝ }
+{
+    if item < event {
+        return leads(height, free, event);
+    }
+    false
+}
+
+// The first jump above an item.
+fn jump(item: u16) -> u16
+    requires { ⌜ item ≤ 51 ⌝ }
+    ensures { λ r. ⌜ r ≡ jump item ⌝ }
+{
+    if item < 3 {
+        return 3;
+    }
+    item + 1
+}
+
+// The least event above an item that leads to an end; 0 where there is none. All jumps lead to the same level, so the first will do.
+fn above(height: u16, free: u16, item: u16) -> u16
+    requires { ⌜ (height + free ≤ 50) × (item ≤ 51) ⌝ }
+    ensures { λ r. ⌜ r ≡ above height free item ⌝ }
+{
+    if better(height, free, item, 1) {
+        return 1;
+    }
+    if better(height, free, item, 2) {
+        return 2;
+    }
+    let j = jump(item);
+    if leads(height, free, j) {
+        return j;
+    }
+    0
+}
+
+// The least event that leads to an end.
+fn lead(height: u16, free: u16) -> u16
+    requires { ⌜ height + free ≤ 50 ⌝ }
+    ensures { λ r. ⌜ r ≡ lead height free ⌝ }
+{
+    if leads(height, free, 0) {
+        return 0;
+    }
+    above(height, free, 0)
+}
+
+// The level at which an item was read, from the level after it.
+fn before(height: u16, free: u16, item: u16) -> Level
+    requires { ⌜ (height + free ≤ 50) × ((h f : ℕ) × Read h f item height free) ⌝ }
+    ensures { λ r. ⌜ ((h f : ℕ) → Read h f item height free → r ≡ level h f) ⌝ }
+{
+    if item == 0 {
+        return Level {
+            height: height + 1,
+            free,
+        };
+    }
+    if item == 1 {
+        return Level {
+            height: height - 1,
+            free: free + 3,
+        };
+    }
+    if item == 2 {
+        return Level {
+            height: height + 1,
+            free: free + 1,
+        };
+    }
+    Level {
+        height: height + 2,
+        free,
+    }
+}
+
+// Whether the items, read from a level on, empty the stack just as they use up the labels.
+fn fits(items: &[u16], height: u16, free: u16) -> bool
+    requires { ⌜ height + free ≤ 50 ⌝ }
+    ensures { λ r. ⌜ ((r ≡ true → Fits height free (now (items .entry))) × (r ≡ false → ¬ Fits height free (now (items .entry)))) ⌝ }
+{
+    let mut h = height;
+    let mut f = free;
+    let mut i: usize = 0;
+    while i < items.len() {
+        let l = after(h, f, items[i]);
+        h = l.height;
+        f = l.free;
+        i += 1;
+    }
+    if h == 0 {
+        return f == 0;
+    }
+    false
+}
+
+// Whether a list is a word of a diagram of n edges.
+pub fn is_word(word: &[u16], n: u16) -> bool
+    requires { ⌜ n ≤ 50 ⌝ }
+    ensures { λ r. ⌜ ((r ≡ true → Word n (now (word .entry))) × (r ≡ false → ¬ Word n (now (word .entry)))) ⌝ }
+{
+    if word.len() == 0 {
+        return false;
+    }
+    let l = start(n, word[0]);
+    fits(&word[1..], l.height, l.free)
+}
+
+// The last item that can be raised, found by reading the items backwards from the emptied stack.
+fn last_raise(items: &[u16]) -> Raise
+    requires { ⌜ ((h f : ℕ) × Fits h f (now items) × (h + f ≤ 50)) ⌝ }
+    ensures { λ r. ⌜ ((h f : ℕ) → Fits h f (now (items .entry)) → h + f ≤ 50 → Raises h f (now (items .entry)) (r .place) (r .event) (r .height) (r .free)) ⌝ }
+{
+    let mut h: u16 = 0;
+    let mut f: u16 = 0;
+    let mut i = items.len();
+    while 0 < i {
+        let x = items[i - 1];
+        let l = before(h, f, x);
+        let e = above(l.height, l.free, x);
+        if 0 < e {
+            let t = after(l.height, l.free, e);
+            return Raise {
+                place: i - 1,
+                event: e,
+                height: t.height,
+                free: t.free,
+            };
+        }
+        h = l.height;
+        f = l.free;
+        i -= 1;
+    }
+    Raise {
+        place: 0,
+        event: 0,
+        height: 0,
+        free: 0,
+    }
+}
+
+// Writes the least way to end after the first `at` items, and gives the length of the word.
+fn end_word(items: &mut [u16; 51], at: usize, height: u16, free: u16) -> usize
+    requires { ⌜ ((p : List ℕ) × (now items ≡ padded p) × (at ≡ length p) × (at + length (ending height free) ≤ 51) × (ends height free ≡ true) × (height + free ≤ 50)) ⌝ }
+    ensures { λ r. ⌜ ((p : List ℕ) → now (items .entry) ≡ padded p → at ≡ length p → (now (items .exit) ≡ padded (p ++ ending height free)) × (r ≡ length (p ++ ending height free))) ⌝ }
+{
+    let mut i = at;
+    let mut h = height;
+    let mut f = free;
+    while h != 0 {
+        let e = lead(h, f);
+        items[i] = e;
+        let l = after(h, f, e);
+        h = l.height;
+        f = l.free;
+        i += 1;
+    }
+    i
+}
+
+// The items of a beginning, an event, and the least way to end after it.
+fn grown(beginning: &[u16], event: u16, height: u16, free: u16) -> Held
+    requires { ⌜ (length (now beginning) + 1 + length (ending height free) ≤ 51) × (ends height free ≡ true) × (height + free ≤ 50) ⌝ }
+    ensures { λ r. ⌜ r ≡ held (now (beginning .entry) ++ (event ∷ ending height free)) ⌝ }
+{
+    let at = beginning.len();
+    let mut items = [0u16; 51];
+    fill(&mut items, beginning);
+    items[at] = event;
+    let length = end_word(&mut items, at + 1, height, free);
+    Held { length, items }
+}
