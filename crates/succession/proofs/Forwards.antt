@@ -54,7 +54,7 @@ module _ (h₀ f₀ : ℕ) (w : List ℕ) (i h f : ℕ) (R : Forth h₀ f₀ w i
 abbrev pub rest : List ℕ → List ℕ
 rest w = take (length w - 1) (drop 1 w)
 
-rest-is : (x : ℕ) (w : List ℕ) → rest (x ∷ w) ≡ w
+pub rest-is : (x : ℕ) (w : List ℕ) → rest (x ∷ w) ≡ w
 rest-is x w = let e : suc (length w) - 1 ≡ length w = omega arith in rw (e, take-length)
 
 pub start-small : (n x : ℕ) → n ≤ 50 → start n x .height + start n x .free ≤ 50

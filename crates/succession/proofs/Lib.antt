@@ -7,3 +7,4 @@ pub mod Cases
 pub mod Backwards
 pub mod Forwards
 pub mod Padding
+pub mod Branches

@@ -29,12 +29,16 @@ drop-zeros zero n l = let e : n - 0 ≡ n = omega arith in rw e
 drop-zeros (suc k) zero l = absurd (omega arith)
 drop-zeros (suc k) (suc n) l = let e : suc n - suc k ≡ n - k = omega arith in rw e (drop-zeros k n (omega arith))
 
--- a beginning filled into zeros, and an event after it
-pub padded-begun : (b items : List ℕ) (x : ℕ) → length b < 51 → items ≡ pick (leb (length b) 51) (b ++ drop (length b) (replicate 51 0)) (replicate 51 0) → set items (length b) x ≡ padded (b ++ (x ∷ []))
-padded-begun b items x l e = rw (e, le-true (length b) 51 (omega arith), drop-zeros (length b) 51 (omega arith)) (padded-more b x l)
+-- a beginning filled into zeros
+pub padded-over : (b items : List ℕ) → length b ≤ 51 → items ≡ pick (leb (length b) 51) (b ++ drop (length b) (replicate 51 0)) (replicate 51 0) → items ≡ padded b
+padded-over b items l e = e ∙ rw (le-true (length b) 51 l, drop-zeros (length b) 51 l)
 
-pub held-grown : (b v items : List ℕ) (x length′ : ℕ) → (items ≡ padded ((b ++ (x ∷ [])) ++ v)) × (length′ ≡ length ((b ++ (x ∷ [])) ++ v)) → _≡_ {A = Held} record { length = length′; items = items } (held (b ++ (x ∷ v)))
-held-grown b v items x length′ r = rw (r .0, r .1, append-assoc)
+-- one item and then a list after it
+pub padded-both : (p v items : List ℕ) (x length′ : ℕ) → (items ≡ padded ((p ++ (x ∷ [])) ++ v)) × (length′ ≡ length ((p ++ (x ∷ [])) ++ v)) → (items ≡ padded (p ++ (x ∷ v))) × (length′ ≡ length (p ++ (x ∷ v)))
+padded-both p v items x length′ r = let e = append-assoc p (x ∷ []) v in (r .0 ∙ ap padded e, r .1 ∙ ap length e)
+
+pub held-by : (w items : List ℕ) (length′ : ℕ) → (items ≡ padded w) × (length′ ≡ length w) → _≡_ {A = Held} record { length = length′; items = items } (held w)
+held-by w items length′ r = rw (r .0, r .1)
 
 -- the items hold q, whose least ending from h and f on is the least ending of p from h₀ and f₀ on
 pub record Wrote (p : List ℕ) (h₀ f₀ : ℕ) (items : List ℕ) (i h f : ℕ) : Type 0 where
