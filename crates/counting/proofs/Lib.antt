@@ -1,3 +1,6 @@
 pub mod Tails
 pub mod Listing
 pub mod Ranking
+pub mod Examples
+pub mod Positions
+pub mod InPlace

@@ -1,13 +1,14 @@
 -- Laws of check's answer: what it accepts are the rooted diagrams of size 1 to 1,024, and each lent diagram has one answer only.
 use mathlib.Core.Path.{_≡_, refl, sym, ap, _∙_}
 use mathlib.Core.Logic.{_≢_, _⊎_, inl, inr, _↔_}
-use mathlib.Core.List.{List}
+use mathlib.Core.List.{List, [], _∷_}
 use Prim.Native.Nat.{ℕ, zero, suc, _<_, _≤_}
 use native.Mathlib.Omega.{arith}
-use lib.ListN.{length}
+use lib.ListN.{length, getD, List·getD-eq-default}
 use Rattle.lists.proofs.Tests.{same?, lt?}
 use Rattle.diagrams.specs.Diagram.{Maps, Diagram, Rooted}
 use Rattle.diagrams.specs.Check.{Size, Lengths, Root, Entries, Thrice, Twice, Connected, Accepts, Refuses, no-size, no-lengths, no-root, no-blacks, no-whites, no-thrice, no-twice, no-path, Checked}
+use Rattle.diagrams.specs.Search.{Mapped}
 use Rattle.diagrams.specs.declared.Verdict.{Verdict}
 use Rattle.diagrams.specs.declared.Verdict.the-variants.{Accepted, Refused}
 
@@ -36,36 +37,35 @@ accepts-rooted s0 s1 root = (to, from)
       connected = r .1 .diagram .connected;
     }
 
--- ---- one answer only
+-- ---- each number has its condition, and there is one answer only
 
 module _ (s0 s1 : List ℕ) (root : ℕ) where
-  -- what refusal k says to fail; nothing under other numbers
-  abbrev Asked : ℕ → Type 0
-  Asked zero = Unit {0}
-  Asked (suc zero) = Size s0
-  Asked (suc (suc zero)) = Lengths s0 s1
-  Asked (suc (suc (suc zero))) = Root s0 root
-  Asked (suc (suc (suc (suc zero)))) = Entries (length s0) s0
-  Asked (suc (suc (suc (suc (suc zero))))) = Entries (length s0) s1
-  Asked (suc (suc (suc (suc (suc (suc zero)))))) = Thrice s0
-  Asked (suc (suc (suc (suc (suc (suc (suc zero))))))) = Twice s1
-  Asked (suc (suc (suc (suc (suc (suc (suc (suc zero)))))))) = Connected s0 s1
-  Asked (suc (suc (suc (suc (suc (suc (suc (suc (suc k))))))))) = Unit {0}
+  -- what is asked, each at the number of its refusal; nothing at 0
+  abbrev pub conditions : List (Type 0)
+  conditions = Unit ∷ Size s0 ∷ Lengths s0 s1 ∷ Root s0 root ∷ Entries (length s0) s0 ∷ Entries (length s0) s1 ∷ Thrice s0 ∷ Twice s1 ∷ Connected s0 s1 ∷ []
+
+  -- what refusal k says to fail; nothing under a number that is no refusal's
+  abbrev pub Asked : ℕ → Type 0
+  Asked k = getD conditions k Unit
 
   -- what is asked under each number below k
-  abbrev Before : ℕ → Type 0
+  abbrev pub Before : ℕ → Type 0
   Before zero = Unit {0}
   Before (suc k) = Before k × Asked k
 
-  before-asked : (k j : ℕ) → j < k → Before k → Asked j
-  before-asked zero j l b = absurd (omega arith)
-  before-asked (suc k) j l b = go (same? j k) (λ l. before-asked k j l (b .0))
-    where
-      go : (j ≡ k) ⊎ (j ≢ k) → (j < k → Asked j) → Asked j
-      go (inl e) h = rw e (b .1)
-      go (inr n) h = h (omega arith)
+  pub refuses : (k : ℕ) → Before k → ¬ Asked k → Refuses s0 s1 root k
+  refuses zero b n = absurd (n tt)
+  refuses (suc zero) b n = no-size n
+  refuses (suc (suc zero)) b n = no-lengths (b .1) n
+  refuses (suc (suc (suc zero))) b n = no-root (b .0 .1) (b .1) n
+  refuses (suc (suc (suc (suc zero)))) b n = no-blacks (b .0 .0 .1) (b .0 .1) (b .1) n
+  refuses (suc (suc (suc (suc (suc zero))))) b n = no-whites (b .0 .0 .0 .1) (b .0 .0 .1) (b .0 .1) (b .1) n
+  refuses (suc (suc (suc (suc (suc (suc zero)))))) b n = no-thrice (b .0 .0 .0 .0 .1) (b .0 .0 .0 .1) (b .0 .0 .1) (b .0 .1) (b .1) n
+  refuses (suc (suc (suc (suc (suc (suc (suc zero))))))) b n = no-twice (b .0 .0 .0 .0 .0 .1) (b .0 .0 .0 .0 .1) (b .0 .0 .0 .1) (b .0 .0 .1) (b .0 .1) (b .1) n
+  refuses (suc (suc (suc (suc (suc (suc (suc (suc zero)))))))) b n = no-path (b .0 .0 .0 .0 .0 .0 .1) (b .0 .0 .0 .0 .0 .1) (b .0 .0 .0 .0 .1) (b .0 .0 .0 .1) (b .0 .0 .1) (b .0 .1) (b .1) n
+  refuses (suc (suc (suc (suc (suc (suc (suc (suc (suc k))))))))) b n = absurd (n tt)
 
-  refused-at : {k : ℕ} → Refuses s0 s1 root k → Before k × (¬ Asked k)
+  pub refused-at : {k : ℕ} → Refuses s0 s1 root k → Before k × (¬ Asked k)
   refused-at (no-size n) = ((tt, tt), n)
   refused-at (no-lengths a n) = (((tt, tt), a), n)
   refused-at (no-root a b n) = ((((tt, tt), a), b), n)
@@ -75,18 +75,27 @@ module _ (s0 s1 : List ℕ) (root : ℕ) where
   refused-at (no-twice a b c d e f n) = ((((((((tt, tt), a), b), c), d), e), f), n)
   refused-at (no-path a b c d e f g n) = (((((((((tt, tt), a), b), c), d), e), f), g), n)
 
-  accepted-at : Accepts s0 s1 root → Before 9
+  pub accepts : Before 9 → Accepts s0 s1 root
+  accepts b = record { size = b .0 .0 .0 .0 .0 .0 .0 .1; lengths = b .0 .0 .0 .0 .0 .0 .1; root-in = b .0 .0 .0 .0 .0 .1; blacks = b .0 .0 .0 .0 .1; whites = b .0 .0 .0 .1; thrice = b .0 .0 .1; twice = b .0 .1; connected = b .1 }
+
+  pub accepted-at : Accepts s0 s1 root → Before 9
   accepted-at a = (((((((((tt, tt), a .size), a .lengths), a .root-in), a .blacks), a .whites), a .thrice), a .twice), a .connected)
 
-  refused-number : {k : ℕ} → Refuses s0 s1 root k → k < 9
-  refused-number (no-size n) = omega arith
-  refused-number (no-lengths _ n) = omega arith
-  refused-number (no-root _ _ n) = omega arith
-  refused-number (no-blacks _ _ _ n) = omega arith
-  refused-number (no-whites _ _ _ _ n) = omega arith
-  refused-number (no-thrice _ _ _ _ _ n) = omega arith
-  refused-number (no-twice _ _ _ _ _ _ n) = omega arith
-  refused-number (no-path _ _ _ _ _ _ _ n) = omega arith
+  -- what the test for connectedness may rely on
+  pub mapped : Before 8 → Mapped s0 s1
+  mapped b = record {
+    size = b .0 .0 .0 .0 .0 .0 .1;
+    lengths = b .0 .0 .0 .0 .0 .1;
+    maps = record { some-edge = b .0 .0 .0 .0 .0 .0 .1 .0; black-in = b .0 .0 .0 .1; white-in = b .0 .0 .1; thrice = b .0 .1; twice = rw (← b .0 .0 .0 .0 .0 .1) (b .1) };
+  }
+
+  before-asked : (k j : ℕ) → j < k → Before k → Asked j
+  before-asked zero j l b = absurd (omega arith)
+  before-asked (suc k) j l b = go (same? j k) (λ l. before-asked k j l (b .0))
+    where
+      go : (j ≡ k) ⊎ (j ≢ k) → (j < k → Asked j) → Asked j
+      go (inl e) h = rw e (b .1)
+      go (inr n) h = h (omega arith)
 
   refused-once : (j k : ℕ) → Refuses s0 s1 root j → Refuses s0 s1 root k → j ≡ k
   refused-once j k a b = go (lt? j k) (lt? k j)
@@ -97,7 +106,11 @@ module _ (s0 s1 : List ℕ) (root : ℕ) where
       go (inr l) (inr m) = omega arith
 
   not-both : (k : ℕ) → Accepts s0 s1 root → Refuses s0 s1 root k → ⊥
-  not-both k a r = refused-at r .1 (before-asked 9 k (refused-number r) (accepted-at a))
+  not-both k a r = go (lt? k 9)
+    where
+      go : (k < 9) ⊎ (9 ≤ k) → ⊥
+      go (inl l) = refused-at r .1 (before-asked 9 k l (accepted-at a))
+      go (inr l) = refused-at r .1 (rw (List·getD-eq-default conditions Unit l) tt)
 
   pub checked-once : (a b : Verdict) → Checked s0 s1 root a → Checked s0 s1 root b → a ≡ b
   checked-once Accepted Accepted p q = refl

@@ -1,3 +1,5 @@
 pub mod Diagram
 pub mod Isomorphism
 pub mod Check
+pub mod Search
+pub mod Held

@@ -1,5 +1,244 @@
 // Trivalent diagrams: the type with its limits, and check.
+use lists::fill;
+use lists::wide;
+ghost use mathlib.Core.Path.{_≡_};
+ghost use mathlib.Core.Logic.{_↔_};
+ghost use mathlib.Core.Bool.{true};
+ghost use mathlib.Core.List.{[], _∷_};
+ghost use lib.ListN.{length, take};
+ghost use Rattle.lists.specs.Lists.{at};
+ghost use Rattle.lists.specs.Ranges.{Edge};
+ghost use Rattle.diagrams.specs.Diagram.{Maps};
+ghost use Rattle.diagrams.specs.Check.{Entries, Thrice, Twice, Connected, Accepts, Checked, AllOne};
+ghost use Rattle.diagrams.specs.Held.{Held, MadeOf};
+ghost use Rattle.diagrams.specs.Search.{Mapped, joined, Search};
+
 pub enum Verdict {
     Accepted,
     Refused(u16),
+}
+
+// A rooted diagram held by value: its lists stand in the first size places, zeros after them.
+pub struct Diagram {
+    pub s0: [u16; Diagram::MAX_SIZE],
+    pub s1: [u16; Diagram::MAX_SIZE],
+    pub size: u16,
+    pub root: u16,
+}
+
+impl Diagram {
+    // Given diagrams have at most this size,
+    pub const MAX_SIZE: usize = 1024;
+    // and counted, listed and shared ones at most this.
+    pub const MAX_LISTED: usize = 50;
+
+    // The diagram of one edge, which both maps fix.
+    pub fn single() -> Diagram
+        ensures { λ r. ⌜ Held r (1 ∷ []) (1 ∷ []) 1 ⌝ }
+    {
+        let mut s0 = [0u16; Diagram::MAX_SIZE];
+        s0[0] = 1;
+        let s1 = s0;
+        Diagram {
+            s0,
+            s1,
+            size: 1,
+            root: 1,
+        }
+    }
+
+    // The lent diagram, checked; a refusal comes with the single edge.
+    pub fn checked(s0: &[u16], s1: &[u16], root: u64) -> Made
+        ensures { λ r. ⌜ MadeOf (now (s0 .entry)) (now (s1 .entry)) root r ⌝ }
+    {
+        let verdict = check(s0, s1, root);
+        match verdict {
+            Verdict::Accepted => Made {
+                verdict,
+                diagram: held(s0, s1, root),
+            },
+            Verdict::Refused(_) => Made {
+                verdict,
+                diagram: Diagram::single(),
+            },
+        }
+    }
+}
+
+// What making a diagram answers.
+pub struct Made {
+    pub verdict: Verdict,
+    pub diagram: Diagram,
+}
+
+// The lists and the root by value.
+fn held(s0: &[u16], s1: &[u16], root: u64) -> Diagram
+    requires { ⌜ Accepts (now s0) (now s1) root ⌝ }
+    ensures { λ r. ⌜ Held r (now (s0 .entry)) (now (s1 .entry)) root ⌝ }
+{
+    let mut black = [0u16; Diagram::MAX_SIZE];
+    let mut white = [0u16; Diagram::MAX_SIZE];
+    fill(&mut black, s0);
+    fill(&mut white, s1);
+    Diagram {
+        s0: black,
+        s1: white,
+        size: s0.len() as u16,
+        root: root as u16,
+    }
+}
+
+// Whether every mark is 1.
+pub fn all_reached(marks: &[u8]) -> bool
+    ensures { λ r. ⌜ (r ≡ true) ↔ AllOne (now (marks .entry)) ⌝ }
+{
+    let mut i: usize = 0;
+    while i < marks.len() {
+        if marks[i] != 1 {
+            return false;
+        }
+        i += 1;
+    }
+    true
+}
+
+// Whether x is one of 1..n.
+fn within(x: u64, n: usize) -> bool
+    ensures { λ r. ⌜ (r ≡ true) ↔ Edge n x ⌝ }
+{
+    if x < 1 {
+        return false;
+    }
+    x <= n as u64
+}
+
+// The edge that the list s leads to from edge x.
+fn next(s: &[u16], x: usize) -> usize
+    requires { ⌜ Edge (length (now s)) x ⌝ }
+    ensures { λ r. ⌜ r ≡ at (now (s .entry)) x ⌝ }
+{
+    wide(s[x - 1])
+}
+
+// Whether every entry is an edge.
+fn entries_in(s: &[u16]) -> bool
+    ensures { λ r. ⌜ (r ≡ true) ↔ Entries (length (now (s .entry))) (now (s .entry)) ⌝ }
+{
+    let n = s.len();
+    let mut x: usize = 1;
+    while x <= n {
+        if !within(next(s, x) as u64, n) {
+            return false;
+        }
+        x += 1;
+    }
+    true
+}
+
+// Whether s0 thrice gives every edge back.
+fn thrice(s0: &[u16]) -> bool
+    requires { ⌜ Entries (length (now s0)) (now s0) ⌝ }
+    ensures { λ r. ⌜ (r ≡ true) ↔ Thrice (now (s0 .entry)) ⌝ }
+{
+    let n = s0.len();
+    let mut x: usize = 1;
+    while x <= n {
+        if next(s0, next(s0, next(s0, x))) != x {
+            return false;
+        }
+        x += 1;
+    }
+    true
+}
+
+// Whether s1 twice gives every edge back.
+fn twice(s1: &[u16]) -> bool
+    requires { ⌜ Entries (length (now s1)) (now s1) ⌝ }
+    ensures { λ r. ⌜ (r ≡ true) ↔ Twice (now (s1 .entry)) ⌝ }
+{
+    let n = s1.len();
+    let mut x: usize = 1;
+    while x <= n {
+        if next(s1, next(s1, x)) != x {
+            return false;
+        }
+        x += 1;
+    }
+    true
+}
+
+// Marks edge x and puts it on the list, unless it is marked already. Returns how many edges the list then has.
+fn reach(marks: &mut [u8; Diagram::MAX_SIZE], list: &mut [u16; Diagram::MAX_SIZE], count: usize, x: usize) -> usize
+    requires { ⌜ Search (now marks) (now list) count ⌝ }
+    requires { ⌜ Edge 1024 x ⌝ }
+    ensures { λ r. ⌜ Search (now (marks .exit)) (now (list .exit)) r × (take r (now (list .exit)) ≡ joined x (take count (now (list .entry)))) ⌝ }
+{
+    if marks[x - 1] == 1 {
+        return count;
+    }
+    marks[x - 1] = 1;
+    list[count] = x as u16;
+    count + 1
+}
+
+// Visits edge k, which the list has: its black and its white neighbour are reached.
+fn visit(s0: &[u16], s1: &[u16], marks: &mut [u8; Diagram::MAX_SIZE], list: &mut [u16; Diagram::MAX_SIZE], count: usize, k: usize) -> usize
+    requires { ⌜ Mapped (now s0) (now s1) ⌝ }
+    requires { ⌜ Edge (length (now s0)) k ⌝ }
+    requires { ⌜ Search (now marks) (now list) count ⌝ }
+    ensures { λ r. ⌜ Search (now (marks .exit)) (now (list .exit)) r
+        × (take r (now (list .exit)) ≡ joined (at (now (s1 .entry)) k) (joined (at (now (s0 .entry)) k) (take count (now (list .entry))))) ⌝ }
+{
+    let more = reach(marks, list, count, next(s0, k));
+    reach(marks, list, more, next(s1, k))
+}
+
+// Whether every edge is reached from edge 1. The list's first edges, done of them, are visited already.
+fn connected(s0: &[u16], s1: &[u16]) -> bool
+    requires { ⌜ Mapped (now s0) (now s1) ⌝ }
+    ensures { λ r. ⌜ (r ≡ true) ↔ Connected (now (s0 .entry)) (now (s1 .entry)) ⌝ }
+{
+    let mut marks = [0u8; Diagram::MAX_SIZE];
+    let mut list = [0u16; Diagram::MAX_SIZE];
+    let mut count = reach(&mut marks, &mut list, 0, 1);
+    let mut done: usize = 0;
+    while done < count {
+        let k = wide(list[done]);
+        count = visit(s0, s1, &mut marks, &mut list, count, k);
+        done += 1;
+    }
+    let n = s0.len();
+    all_reached(&marks[..n])
+}
+
+// Whether the lent lists and root are a rooted diagram, or the number of the first condition that fails.
+pub fn check(s0: &[u16], s1: &[u16], root: u64) -> Verdict
+    ensures { λ r. ⌜ Checked (now (s0 .entry)) (now (s1 .entry)) root r ⌝ }
+{
+    let n = s0.len();
+    if !within(n as u64, Diagram::MAX_SIZE) {
+        return Verdict::Refused(1);
+    }
+    if s1.len() != n {
+        return Verdict::Refused(2);
+    }
+    if !within(root, n) {
+        return Verdict::Refused(3);
+    }
+    if !entries_in(s0) {
+        return Verdict::Refused(4);
+    }
+    if !entries_in(s1) {
+        return Verdict::Refused(5);
+    }
+    if !thrice(s0) {
+        return Verdict::Refused(6);
+    }
+    if !twice(s1) {
+        return Verdict::Refused(7);
+    }
+    if !connected(s0, s1) {
+        return Verdict::Refused(8);
+    }
+    Verdict::Accepted
 }

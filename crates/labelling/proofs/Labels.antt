@@ -10,7 +10,7 @@ use lib.ListN.{length}
 use Rattle.lists.specs.Lists.{at, Has, Apart, has, find}
 use Rattle.lists.specs.Ranges.{Edge, down}
 use Rattle.lists.proofs.Lists.{pigeons}
-use Rattle.lists.proofs.Ranges.{down-has, apart-down, length-down, onto}
+use Rattle.lists.proofs.Ranges.{down-has, apart-down, length-down}
 use Rattle.lists.proofs.Tests.{eqb-same, eqb-ne, same?}
 use Rattle.diagrams.specs.Diagram.{Reached, Maps, Diagram, here, black, white}
 use Rattle.diagrams.specs.Isomorphism.{Isomorphism}

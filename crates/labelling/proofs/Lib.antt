@@ -5,3 +5,7 @@ pub mod Labels
 pub mod OwnWord
 pub mod SpelledWord
 pub mod WordsAlike
+pub mod Ended
+pub mod OfLists
+pub mod Rootings
+pub mod Examples

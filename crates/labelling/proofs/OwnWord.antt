@@ -12,7 +12,7 @@ use Rattle.lists.specs.Ranges.{Edge, down}
 use Rattle.lists.proofs.Lists.{find-lt, getD-find, cut-other, length-cut, at-left, at-right, length-listed, at-listed, length-3, length-1}
 use Rattle.lists.proofs.Ranges.{has-down, length-down}
 use Rattle.lists.proofs.Tests.{same?, lt-true}
-use Rattle.diagrams.specs.Diagram.{Diagram, black, white}
+use Rattle.diagrams.specs.Diagram.{Diagram}
 use Rattle.words.specs.Word.{Pair, spells, spell}
 use Rattle.words.proofs.Growing.{State, state-W, state-F, state-B, state-J, state-U, state-T, old-white, new-white, k-white, J-other, J-k, J-p}
 use Rattle.labelling.specs.Labelling.{move, run, label}

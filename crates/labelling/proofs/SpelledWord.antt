@@ -12,7 +12,6 @@ use Rattle.lists.specs.Ranges.{down}
 use Rattle.lists.proofs.Lists.{find-getD, length-3, length-1}
 use Rattle.lists.proofs.Ranges.{has-down, down-has}
 use Rattle.lists.proofs.Tests.{ltb-true}
-use Rattle.diagrams.specs.Diagram.{black, white}
 use Rattle.words.specs.Word.{Pair, spells, spell}
 use Rattle.words.proofs.Growing.{State, Keeps, keeps, short, state-W, state-F, state-B, state-J, k-in, p-in, F-k, F-c, F-sc, B-k, B-c, W-k, Jd-k, none≢some, picked, state-U, state-T, p-k}
 use Rattle.labelling.specs.Labelling.{move, run, label}

@@ -9,7 +9,7 @@ use Rattle.lists.specs.Lists.{at, listed}
 use Rattle.lists.specs.Ranges.{Edge, down}
 use Rattle.lists.proofs.Lists.{length-listed, at-listed}
 use Rattle.lists.proofs.Ranges.{onto}
-use Rattle.diagrams.specs.Diagram.{Diagram, black, white}
+use Rattle.diagrams.specs.Diagram.{Diagram}
 use Rattle.diagrams.specs.Isomorphism.{RootIsomorphic}
 use Rattle.words.specs.Word.{Pair, spell}
 use Rattle.labelling.specs.Labelling.{Labelled, label, lab, edge, relabel}

@@ -13,7 +13,6 @@ use Rattle.lists.specs.Ranges.{Edge}
 use Rattle.lists.proofs.Lists.{has-getD, cut-has, cut-not, apart-cut, length-cut, length-put, at-put-same, at-put-other, at-left, at-right, length-3, length-1}
 use Rattle.lists.proofs.Ranges.{down-has, apart-down}
 use Rattle.lists.proofs.Tests.{ltb-true}
-use Rattle.diagrams.specs.Diagram.{black, white}
 use Rattle.words.specs.Word.{Pair, spells}
 
 -- what holds of a stack and the maps of the labels given so far

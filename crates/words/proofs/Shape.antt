@@ -9,7 +9,6 @@ use lib.ListN.{length, getD}
 use Rattle.lists.specs.Lists.{at, put, cut}
 use Rattle.lists.proofs.Lists.{length-cut, length-3, length-1}
 use Rattle.lists.proofs.Tests.{lt-true, ltb-true}
-use Rattle.diagrams.specs.Diagram.{black, white}
 use Rattle.words.specs.Shape.{less1, less3, Fits, Word}
 use Rattle.words.specs.Word.{Pair, spells, spell, Spells}
 use Rattle.words.proofs.Growing.{none≢some, picked}

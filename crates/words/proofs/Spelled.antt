@@ -211,3 +211,10 @@ spelled-diagram (suc zero ∷ w) D e =
     let i = K .longer in
     valid-of _ _ _ (omega arith) (good w _ _ _ D state-T e (good-3 _ _ (K .blacks 1 (omega arith)) (K .blacks 2 (omega arith)) (K .blacks 3 (omega arith))))
 spelled-diagram (suc (suc x) ∷ w) D e = absurd (none≢some D e)
+
+pub spelled-lengths : (w : List ℕ) (D : Pair) → spell w ≡ some D → length (D .white) ≡ length (D .black)
+unfolding spell
+spelled-lengths [] D e = absurd (none≢some D e)
+spelled-lengths (zero ∷ w) D e = keeps w _ _ _ D state-U e .level
+spelled-lengths (suc zero ∷ w) D e = keeps w _ _ _ D state-T e .level
+spelled-lengths (suc (suc x) ∷ w) D e = absurd (none≢some D e)

@@ -1,21 +1,48 @@
--- Words in letters (document 01, "Labelling and words" and "Small sizes, by hand"), as ASCII bytes.
+-- Numbers and words as ASCII bytes (document 01, "Labelling and words" and "Small sizes, by hand").
 --
---   decimal m             the digits of m, the highest first
+--   digits k m            the digits of m, the highest first, where there are at most k; otherwise the k lowest
+--   decimal m             m in decimal, for a number of 64 bits or fewer
+--   over d i s            the bytes d with s in place of those from place i on
+--   Wrote d i s r e       s was written at place i of d: e is `over d i s`, and r the place after it
+--   Put d i s r e         the same where s fits; where it does not, e is d and r is i
 --   letters w             U or T, then for each item W, F, B or J with d in decimal; a first item above 1 has no letter
---   Lettered              the promise of `letters`: 22 where the first item is not 0 or 1, then 9 where the room is short
+--   lettering w n         the answer of `letters` on room for n bytes: 22 where the first item is not 0 or 1, then 9 where the room is short,
+--                         otherwise the number of letters
+--   Lettering w d r e     the promise of `letters`: that answer, and the room from d before to e after
+use mathlib.Core.Path.{_≡_}
+use mathlib.Core.Bool.{Bool, true}
 use mathlib.Core.List.{List, [], _∷_, _++_}
 use Prim.Native.Nat.{ℕ, zero, suc, _+_, _/_, _%_}
-use lib.Dec.{ltb}
+use lib.Dec.{leb, ltb}
+use lib.ListN.{length, take, drop}
 use Rattle.lists.specs.Lists.{pick}
+use Rattle.words.specs.declared.Lettered.{Lettered}
+use Rattle.words.specs.declared.Lettered.the-variants.{Length, Refused}
 
--- the digits of m, of which there are at most k
+-- ---- numbers
+
 unfoldable pub digits : ℕ → ℕ → List ℕ
 digits zero m = []
 digits (suc k) m = let r = digits k (m / 10) in pick (ltb m 10) ((48 + m) ∷ []) (r ++ ((48 + m % 10) ∷ []))
 
--- an item is a 16-bit number: five digits are enough
+-- a number of 64 bits is below 10^20: twenty digits are enough
 unfoldable pub decimal : ℕ → List ℕ
-decimal m = digits 5 m
+decimal m = digits 20 m
+
+-- ---- writing at a place
+
+abbrev pub over : List ℕ → ℕ → List ℕ → List ℕ
+over d i s = take i d ++ (s ++ drop (i + length s) d)
+
+pub record Wrote (d : List ℕ) (i : ℕ) (s : List ℕ) (r : ℕ) (e : List ℕ) : Type 0 where
+  pub next : r ≡ i + length s
+  pub bytes : e ≡ over d i s
+
+pub record Put (d : List ℕ) (i : ℕ) (s : List ℕ) (r : ℕ) (e : List ℕ) : Type 0 where
+  pub next : r ≡ pick (leb (i + length s) (length d)) (i + length s) i
+  pub bytes : e ≡ pick (leb (i + length s) (length d)) (over d i s) d
+
+-- ---- words
 
 abbrev pub first-letter : ℕ → List ℕ
 first-letter zero = 85 ∷ []
@@ -35,3 +62,20 @@ events-letters (x ∷ w) = event-letters x ++ events-letters w
 unfoldable pub letters : List ℕ → List ℕ
 letters [] = []
 letters (x ∷ w) = first-letter x ++ events-letters w
+
+-- no item, or a first item that is 0 or 1
+abbrev pub opens : List ℕ → Bool
+opens [] = true
+opens (x ∷ w) = ltb x 2
+
+abbrev pub lettering : List ℕ → ℕ → Lettered
+lettering w n = pick (opens w) (pick (leb (length (letters w)) n) (Length (length (letters w))) (Refused 9)) (Refused 22)
+
+-- the room after, by the answer's cases
+abbrev pub Room : Lettered → List ℕ → List ℕ → List ℕ → Type 0
+Room (Length n) w d e = e ≡ letters w ++ drop n d
+Room (Refused k) w d e = e ≡ d
+
+pub record Lettering (w d : List ℕ) (r : Lettered) (e : List ℕ) : Type 0 where
+  pub answer : r ≡ lettering w (length d)
+  pub room : Room r w d e

@@ -1,7 +1,12 @@
 // Words: their dictionary order and their letters. What a word spells is in specs/Word.antt.
 ghost use mathlib.Core.Path.{_≡_};
+ghost use mathlib.Core.List.{_∷_, []};
+ghost use Prim.Native.Nat.{_+_, _≤_, _<_};
+ghost use lib.Dec.{leb};
+ghost use lib.ListN.{length};
 ghost use Rattle.lists.specs.Lists.{pick};
 ghost use Rattle.words.specs.Order.{precedes, lesser};
+ghost use Rattle.words.specs.Letters.{decimal, Wrote, Put, first-letter, event-letters, events-letters, Lettering};
 
 // Whether a comes before b in dictionary order.
 pub fn precedes(a: &[u16], b: &[u16]) -> bool
@@ -31,4 +36,146 @@ pub fn lesser<'a>(a: &'a [u16], b: &'a [u16]) -> &'a [u16]
         return b;
     }
     a
+}
+
+// How many digits m has.
+fn decimal_length(m: u64) -> usize
+    ensures { λ r. ⌜ r ≡ length (decimal m) ⌝ }
+{
+    let mut n: usize = 1;
+    let mut x = m;
+    while 10 <= x {
+        x /= 10;
+        n += 1;
+    }
+    n
+}
+
+// Writes m in decimal at a place of out and returns the place after it; where it does not fit, writes nothing and returns the place itself.
+pub fn put_decimal(out: &mut [u8], at: usize, m: u64) -> usize
+    ensures { λ r. ⌜ Put (now (out .entry)) at (decimal m) r (now (out .exit)) ⌝ }
+{
+    let n = decimal_length(m);
+    if out.len() < at {
+        return at;
+    }
+    if out.len() - at < n {
+        return at;
+    }
+    let mut end = at + n;
+    let mut x = m;
+    while 10 <= x {
+        end -= 1;
+        out[end] = 48 + (x % 10) as u8;
+        x /= 10;
+    }
+    out[at] = 48 + x as u8;
+    at + n
+}
+
+// The answer of letters: how many bytes it wrote, or the number of the refusal.
+pub enum Lettered {
+    Length(usize),
+    Refused(u16),
+}
+
+// How many letters an event has.
+fn event_length(x: u16) -> usize
+    ensures { λ r. ⌜ r ≡ length (event-letters x) ⌝ }
+{
+    if x < 3 {
+        return 1;
+    }
+    1 + decimal_length((x - 3) as u64)
+}
+
+fn event_letter(x: u16) -> u8
+    requires { ⌜ x < 3 ⌝ }
+    ensures { λ r. ⌜ event-letters x ≡ r ∷ [] ⌝ }
+{
+    match x {
+        0 => b'W',
+        1 => b'F',
+        _ => b'B',
+    }
+}
+
+fn first_letter(x: u16) -> u8
+    requires { ⌜ x < 2 ⌝ }
+    ensures { λ r. ⌜ first-letter x ≡ r ∷ [] ⌝ }
+{
+    if x == 0 { b'U' } else { b'T' }
+}
+
+// Whether the letters of all the events fit into room. (Their number alone could exceed a usize.)
+fn events_fit(items: &[u16], room: usize) -> bool
+    ensures { λ r. ⌜ r ≡ leb (length (events-letters (now (items .entry)))) room ⌝ }
+{
+    let mut left = room;
+    let mut i: usize = 0;
+    while i < items.len() {
+        let n = event_length(items[i]);
+        if left < n {
+            return false;
+        }
+        left -= n;
+        i += 1;
+    }
+    true
+}
+
+fn put_event(out: &mut [u8], at: usize, x: u16) -> usize
+    requires { ⌜ at + length (event-letters x) ≤ length (now out) ⌝ }
+    ensures { λ r. ⌜ Wrote (now (out .entry)) at (event-letters x) r (now (out .exit)) ⌝ }
+{
+    if x < 3 {
+        out[at] = event_letter(x);
+        return at + 1;
+    }
+    out[at] = b'J';
+    put_decimal(out, at + 1, (x - 3) as u64)
+}
+
+fn put_events(out: &mut [u8], at: usize, items: &[u16]) -> usize
+    requires { ⌜ at + length (events-letters (now items)) ≤ length (now out) ⌝ }
+    ensures { λ r. ⌜ Wrote (now (out .entry)) at (events-letters (now (items .entry))) r (now (out .exit)) ⌝ }
+{
+    let mut next = at;
+    let mut i: usize = 0;
+    while i < items.len() {
+        next = put_event(out, next, items[i]);
+        i += 1;
+    }
+    next
+}
+
+// Letters of a word that begins with x, a U or a T: nothing is written before it is known that all of them fit.
+fn put_letters(out: &mut [u8], x: u16, items: &[u16]) -> Lettered
+    requires { ⌜ x < 2 ⌝ }
+    ensures { λ r. ⌜ Lettering (x ∷ now (items .entry)) (now (out .entry)) r (now (out .exit)) ⌝ }
+{
+    if out.len() == 0 {
+        return Lettered::Refused(9);
+    }
+    if !events_fit(items, out.len() - 1) {
+        return Lettered::Refused(9);
+    }
+    out[0] = first_letter(x);
+    let n = put_events(out, 1, items);
+    Lettered::Length(n)
+}
+
+// Writes the letters of a word at the beginning of out and answers how many they are. Refuses 22 a first item that is not 0 or 1,
+// then 9 an out that is short. The empty word has no letters.
+pub fn letters(word: &[u16], out: &mut [u8]) -> Lettered
+    ensures { λ r. ⌜ Lettering (now (word .entry)) (now (out .entry)) r (now (out .exit)) ⌝ }
+{
+    if word.len() == 0 {
+        return Lettered::Length(0);
+    }
+    let x = word[0];
+    if 1 < x {
+        return Lettered::Refused(22);
+    }
+    put_letters(out, x, &word[1..])
 }

@@ -1,0 +1,189 @@
+-- Laws of cycles. Every edge comes back after at most n steps, since its powers would else be more than n different edges;
+-- so a cycle can be run through from each of its edges, its period is the length of a walk round it, and it has one least edge.
+use mathlib.Core.Path.{_≡_, refl, sym, ap, _∙_}
+use mathlib.Core.Logic.{_≢_, _⊎_, inl, inr}
+use mathlib.Core.Bool.{Bool, true, false, true≢false}
+use Prim.Native.Nat.{ℕ, zero, suc, _+_, _-_, _≤_, _<_, min}
+use native.Mathlib.Nat.{suc-add}
+use native.Mathlib.Omega.{arith}
+use lib.Dec.{eqb, leb}
+use Rattle.lists.specs.Ranges.{Edge}
+use Rattle.lists.proofs.Tests.{same?, lt?, eqb-eq, eqb-true, le-true, leb-true}
+use Rattle.lists.proofs.Ranges.{every-true, true-every}
+use Rattle.cycles.specs.Cycles.{Perm, after, Same, seek, least, cycles, period, fixes}
+use Rattle.cycles.proofs.Tallies.{tally-le, tally-most, tally-all}
+use Rattle.cycles.proofs.Searches.{First, seek-first}
+
+-- ---- bounds
+
+pub cycles-most : (n : ℕ) (φ : ℕ → ℕ) → cycles n φ ≤ n
+unfolding cycles
+cycles-most n φ = tally-most n (least n φ)
+
+pub fixes-most : (n : ℕ) (g : ℕ → ℕ) → fixes n g ≤ n
+unfolding fixes
+fixes-most n g = tally-most n (λ x. eqb (g x) x)
+
+-- ---- powers
+
+after-step : (φ : ℕ → ℕ) (k x : ℕ) → after φ k (φ x) ≡ φ (after φ k x)
+after-step φ zero x = refl
+after-step φ (suc k) x = ap φ (after-step φ k x)
+
+after-add : (φ : ℕ → ℕ) (a b x : ℕ) → after φ (a + b) x ≡ after φ a (after φ b x)
+after-add φ zero b x = ap (λ i. after φ i x) (none b)
+  where
+    none : (b : ℕ) → 0 + b ≡ b
+    none b = omega arith
+after-add φ (suc a) b x = rw (suc-add a b) (ap φ (after-add φ a b x))
+
+pub same-trans : (φ : ℕ → ℕ) (x y z : ℕ) → Same φ x y → Same φ y z → Same φ x z
+same-trans φ x y z a b = (b .0 + a .0, after-add φ (b .0) (a .0) x ∙ ap (after φ (b .0)) (a .1) ∙ b .1)
+
+-- the least of x and its first m powers: for m = n, the least edge of x's cycle
+pub lowest : (ℕ → ℕ) → ℕ → ℕ → ℕ
+lowest φ x zero = x
+lowest φ x (suc m) = min (after φ (suc m) x) (lowest φ x m)
+
+pub lowest-same : (φ : ℕ → ℕ) (x m : ℕ) → Same φ x (lowest φ x m)
+unfolding lowest
+lowest-same φ x zero = (0, refl)
+lowest-same φ x (suc m) = go (lt? (after φ (suc m) x) (lowest φ x m)) (lowest-same φ x m)
+  where
+    go : (after φ (suc m) x < lowest φ x m) ⊎ (lowest φ x m ≤ after φ (suc m) x) → Same φ x (lowest φ x m) → Same φ x (min (after φ (suc m) x) (lowest φ x m))
+    go (inl h) s = (suc m, omega arith)
+    go (inr h) s = let q = s .1 in (s .0, omega arith)
+
+lowest-below : (φ : ℕ → ℕ) (x m k : ℕ) → Edge m k → lowest φ x m ≤ after φ k x
+unfolding lowest
+lowest-below φ x zero k i = absurd (omega arith)
+lowest-below φ x (suc m) k i = go (same? k (suc m)) (lowest-below φ x m k)
+  where
+    go : (k ≡ suc m) ⊎ (k ≢ suc m) → (Edge m k → lowest φ x m ≤ after φ k x) → min (after φ (suc m) x) (lowest φ x m) ≤ after φ k x
+    go (inl q) h = rw q (omega arith)
+    go (inr q) h = let z = h (omega arith) in omega arith
+
+-- ---- the period
+
+-- the length of x's cycle is l
+pub record Period (φ : ℕ → ℕ) (x l : ℕ) : Type 0 where
+  pub some : 1 ≤ l
+  pub back : after φ l x ≡ x
+  pub first : (j : ℕ) → 1 ≤ j → j < l → after φ j x ≢ x
+
+pub period-only : (φ : ℕ → ℕ) (x l m : ℕ) → Period φ x l → Period φ x m → l ≡ m
+period-only φ x l m p q = go (lt? l m) (lt? m l)
+  where
+    go : (l < m) ⊎ (m ≤ l) → (m < l) ⊎ (l ≤ m) → l ≡ m
+    go (inl h) k = absurd (q .first l (p .some) h (p .back))
+    go (inr h) (inl k) = absurd (p .first m (q .some) k (q .back))
+    go (inr h) (inr k) = omega arith
+
+module _ {n : ℕ} {φ : ℕ → ℕ} (p : Perm n φ) where
+  pub after-in : (k x : ℕ) → Edge n x → Edge n (after φ k x)
+  after-in zero x e = e
+  after-in (suc k) x e = p .into _ (after-in k x e)
+
+  pub same-in : (x y : ℕ) → Edge n x → Same φ x y → Edge n y
+  same-in x y e s = rw (s .1) at (after-in (s .0) x e)
+
+  after-one-one : (k x y : ℕ) → Edge n x → Edge n y → after φ k x ≡ after φ k y → x ≡ y
+  after-one-one zero x y i j q = q
+  after-one-one (suc k) x y i j q = after-one-one k x y i j (p .one-one _ _ (after-in k x i) (after-in k y j) q)
+
+  module _ (x : ℕ) (e : Edge n x) where
+    -- equal powers i and i + d
+    return-by : (i d : ℕ) → after φ i x ≡ after φ (i + d) x → after φ d x ≡ x
+    return-by i d q = sym (after-one-one i x (after φ d x) e (after-in d x e) (q ∙ after-add φ i d x))
+
+    abbrev returns : ℕ → Bool
+    returns k = eqb (after φ k x) x
+
+    some-return : ((j : ℕ) → 1 ≤ j → j < 1 + n → returns j ≡ false) → ⊥
+    some-return never =
+        let h = rw (tally-all (suc n), tally-all n) at
+            (tally-le (suc n) (λ k. true) n (λ k. true) (λ k. after φ k x) (λ k i _. (after-in k x e, refl)) (λ j k a _ b _ q. different j k a b q)) in
+        omega arith
+      where
+        later : (j k : ℕ) → Edge (suc n) j → Edge (suc n) k → j < k → after φ j x ≡ after φ k x → ⊥
+        later j k a b l q =
+            let s : k ≡ j + (k - j) = omega arith in
+            let back = return-by j (k - j) (q ∙ ap (λ i. after φ i x) s) in
+            true≢false (sym (eqb-eq _ x back) ∙ never (k - j) (omega arith) (omega arith))
+
+        different : (j k : ℕ) → Edge (suc n) j → Edge (suc n) k → after φ j x ≡ after φ k x → j ≡ k
+        different j k a b q = go (lt? j k) (lt? k j)
+          where
+            go : (j < k) ⊎ (k ≤ j) → (k < j) ⊎ (j ≤ k) → j ≡ k
+            go (inl l) m = absurd (later j k a b l q)
+            go (inr l) (inl m) = absurd (later k j b a m (sym q))
+            go (inr l) (inr m) = omega arith
+
+    period-first : First n returns 1 (period n φ x)
+    unfolding period
+    period-first = go (seek-first n returns 1)
+      where
+        go : First n returns 1 (seek n returns 1) ⊎ ((j : ℕ) → 1 ≤ j → j < 1 + n → returns j ≡ false) → First n returns 1 (seek n returns 1)
+        go (inl f) = f
+        go (inr never) = absurd (some-return never)
+
+    pub period-is : Period φ x (period n φ x)
+    period-is = record {
+      some = period-first .low;
+      back = eqb-true _ _ (period-first .hit);
+      first = λ j a b q. true≢false (sym (eqb-eq _ x q) ∙ period-first .before j a b);
+    }
+
+    pub period-most : period n φ x ≤ n
+    period-most = let h = period-first .high in omega arith
+
+    -- every power is one of the first ones
+    pub after-period : (k : ℕ) → (j : ℕ) × Edge (period n φ x) j × (after φ k x ≡ after φ j x)
+    after-period zero = let h = period-is .some in (period n φ x, omega arith, sym (period-is .back))
+    after-period (suc k) = go (after-period k) (same? (after-period k .0) (period n φ x))
+      where
+        go : (r : (j : ℕ) × Edge (period n φ x) j × (after φ k x ≡ after φ j x)) → (r .0 ≡ period n φ x) ⊎ (r .0 ≢ period n φ x)
+            → (j : ℕ) × Edge (period n φ x) j × (after φ (suc k) x ≡ after φ j x)
+        go r (inl q) = let h = period-is .some in (1, omega arith, ap φ (r .2 ∙ ap (λ i. after φ i x) q ∙ period-is .back))
+        go r (inr q) = let h = r .1 in (suc (r .0), omega arith, ap φ (r .2))
+
+    -- what lies in x's cycle is one of the first n powers
+    same-after : (y : ℕ) → Same φ x y → (j : ℕ) × Edge n j × (after φ j x ≡ y)
+    same-after y s = let r = after-period (s .0) in let h = r .1 in let m = period-most in (r .0, omega arith, sym (r .2) ∙ s .1)
+
+    step-back : Same φ (φ x) x
+    step-back = go (period n φ x) period-is
+      where
+        go : (l : ℕ) → Period φ x l → Same φ (φ x) x
+        go zero h = let z = h .some in absurd (omega arith)
+        go (suc l) h = (l, after-step φ l x ∙ h .back)
+
+    -- the least edge of a cycle
+
+    pub least-below : least n φ x ≡ true → (y : ℕ) → Same φ x y → x ≤ y
+    unfolding least
+    least-below l y s = let r = same-after y s in rw (r .2) at (leb-true x (after φ (r .0) x) (every-true n (λ k. leb x (after φ k x)) l (r .0) (r .1)))
+
+    pub below-least : ((y : ℕ) → Same φ x y → x ≤ y) → least n φ x ≡ true
+    unfolding least
+    below-least h = true-every n (λ k. leb x (after φ k x)) (λ k i. le-true x (after φ k x) (h _ (k, refl)))
+
+    pub not-least : (y : ℕ) → Same φ x y → y < x → least n φ x ≡ false
+    not-least y s h = go (least n φ x) refl
+      where
+        go : (b : Bool) → least n φ x ≡ b → b ≡ false
+        go true l = let z = least-below l y s in absurd (omega arith)
+        go false l = refl
+
+  pub same-sym : (x y : ℕ) → Edge n x → Same φ x y → Same φ y x
+  same-sym x y e s = rw (s .1) at (back (s .0))
+    where
+      back : (k : ℕ) → Same φ (after φ k x) x
+      back zero = (0, refl)
+      back (suc k) = same-trans φ _ (after φ k x) x (step-back (after φ k x) (after-in k x e)) (back k)
+
+  pub lowest-least : (x : ℕ) → Edge n x → least n φ (lowest φ x n) ≡ true
+  lowest-least x e = below-least (lowest φ x n) (same-in x _ e (lowest-same φ x n)) below
+    where
+      below : (y : ℕ) → Same φ (lowest φ x n) y → lowest φ x n ≤ y
+      below y s = let r = same-after x e y (same-trans φ x (lowest φ x n) y (lowest-same φ x n) s) in rw (r .2) at (lowest-below φ x n (r .0) (r .1))

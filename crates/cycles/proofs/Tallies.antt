@@ -1,0 +1,106 @@
+-- Laws of tally and top: how many of 1..n pass a test, and the largest of n numbers.
+-- Two tallies are compared by a one-to-one map from what passes the one test to what passes the other.
+use mathlib.Core.Path.{_≡_, refl, sym, ap, _∙_}
+use mathlib.Core.Logic.{_≢_, _⊎_, inl, inr}
+use mathlib.Core.Bool.{Bool, true, false, true≢false}
+use mathlib.Core.List.{List, [], _∷_}
+use Prim.Native.Nat.{ℕ, zero, suc, _+_, _≤_, max}
+use native.Mathlib.Omega.{arith}
+use lib.ListN.{length}
+use Rattle.lists.specs.Lists.{pick, Has, Apart}
+use Rattle.lists.specs.Ranges.{Edge, tally, top}
+use Rattle.lists.proofs.Tests.{same?}
+use Rattle.lists.proofs.Lists.{pigeons}
+
+-- ---- tally
+
+pub tally-most : (n : ℕ) (t : ℕ → Bool) → tally n t ≤ n
+tally-most zero t = omega arith
+tally-most (suc n) t = go (t (suc n)) (tally-most n t)
+  where
+    go : (b : Bool) → tally n t ≤ n → pick b 1 0 + tally n t ≤ suc n
+    go true h = omega arith
+    go false h = omega arith
+
+pub tally-all : (n : ℕ) → tally n (λ x. true) ≡ n
+tally-all zero = refl
+tally-all (suc n) = let h = tally-all n in omega arith
+
+-- the values of h at those of 1..n that pass t
+abbrev passing : ℕ → (ℕ → Bool) → (ℕ → ℕ) → List ℕ
+passing zero t h = []
+passing (suc n) t h = pick (t (suc n)) (h (suc n) ∷ passing n t h) (passing n t h)
+
+module _ (t : ℕ → Bool) (h : ℕ → ℕ) where
+  passing-length : (n : ℕ) → length (passing n t h) ≡ tally n t
+  passing-length zero = refl
+  passing-length (suc n) = go (t (suc n)) (passing-length n)
+    where
+      go : (b : Bool) → length (passing n t h) ≡ tally n t → length (pick b (h (suc n) ∷ passing n t h) (passing n t h)) ≡ pick b 1 0 + tally n t
+      go true e = omega arith
+      go false e = omega arith
+
+  passing-from : (n y : ℕ) → Has y (passing n t h) → (x : ℕ) × Edge n x × (t x ≡ true) × (y ≡ h x)
+  passing-from zero y m = absurd m
+  passing-from (suc n) y m = go (t (suc n)) refl m (passing-from n y)
+    where
+      go : (b : Bool) → t (suc n) ≡ b → Has y (pick b (h (suc n) ∷ passing n t h) (passing n t h))
+          → (Has y (passing n t h) → (x : ℕ) × Edge n x × (t x ≡ true) × (y ≡ h x))
+          → (x : ℕ) × Edge (suc n) x × (t x ≡ true) × (y ≡ h x)
+      go true e (inl q) k = (suc n, omega arith, e, q)
+      go true e (inr m) k = let r = k m in let i = r .1 in (r .0, omega arith, r .2, r .3)
+      go false e m k = let r = k m in let i = r .1 in (r .0, omega arith, r .2, r .3)
+
+  passing-has : (n x : ℕ) → Edge n x → t x ≡ true → Has (h x) (passing n t h)
+  passing-has zero x e p = absurd (omega arith)
+  passing-has (suc n) x e p = go (t (suc n)) refl (same? x (suc n)) (passing-has n x)
+    where
+      go : (b : Bool) → t (suc n) ≡ b → (x ≡ suc n) ⊎ (x ≢ suc n) → (Edge n x → t x ≡ true → Has (h x) (passing n t h)) → Has (h x) (pick b (h (suc n) ∷ passing n t h) (passing n t h))
+      go true q (inl s) k = inl (ap h s)
+      go true q (inr s) k = inr (k (omega arith) p)
+      go false q (inl s) k = absurd (true≢false (sym p ∙ ap t s ∙ q))
+      go false q (inr s) k = k (omega arith) p
+
+  passing-apart : (n : ℕ) → ((x y : ℕ) → Edge n x → t x ≡ true → Edge n y → t y ≡ true → h x ≡ h y → x ≡ y) → Apart (passing n t h)
+  passing-apart zero one-one = tt
+  passing-apart (suc n) one-one = go (t (suc n)) refl (passing-apart n (λ x y i p j q. one-one x y (omega arith) p (omega arith) q))
+    where
+      go : (b : Bool) → t (suc n) ≡ b → Apart (passing n t h) → Apart (pick b (h (suc n) ∷ passing n t h) (passing n t h))
+      go true e a = (new, a)
+        where
+          new : ¬ Has (h (suc n)) (passing n t h)
+          new m =
+              let r = passing-from n (h (suc n)) m in
+              let i = r .1 in
+              let s = one-one (suc n) (r .0) (omega arith) e (omega arith) (r .2) (r .3) in
+              omega arith
+      go false e a = a
+
+-- h leads from what passes t to what passes u, one-to-one
+pub tally-le : (n : ℕ) (t : ℕ → Bool) (m : ℕ) (u : ℕ → Bool) (h : ℕ → ℕ)
+    → ((x : ℕ) → Edge n x → t x ≡ true → Edge m (h x) × (u (h x) ≡ true))
+    → ((x y : ℕ) → Edge n x → t x ≡ true → Edge n y → t y ≡ true → h x ≡ h y → x ≡ y)
+    → tally n t ≤ tally m u
+tally-le n t m u h into one-one =
+    rw (passing-length t h n, passing-length u (λ x. x) m) at
+    (pigeons (passing n t h) (passing m u (λ x. x)) (passing-apart t h n one-one) inside)
+  where
+    inside : (y : ℕ) → Has y (passing n t h) → Has y (passing m u (λ x. x))
+    inside y a =
+        let r = passing-from t h n y a in
+        let q = into (r .0) (r .1) (r .2) in
+        rw (r .3) (passing-has u (λ x. x) m (h (r .0)) (q .0) (q .1))
+
+-- ---- top
+
+pub top-over : (n : ℕ) (t : ℕ → ℕ) (x : ℕ) → Edge n x → t x ≤ top n t
+top-over zero t x e = absurd (omega arith)
+top-over (suc n) t x e = go (same? x (suc n)) (top-over n t x)
+  where
+    go : (x ≡ suc n) ⊎ (x ≢ suc n) → (Edge n x → t x ≤ top n t) → t x ≤ max (t (suc n)) (top n t)
+    go (inl q) k = rw q (omega arith)
+    go (inr q) k = let i = k (omega arith) in omega arith
+
+pub top-under : (n : ℕ) (t : ℕ → ℕ) (b : ℕ) → ((x : ℕ) → Edge n x → t x ≤ b) → top n t ≤ b
+top-under zero t b k = omega arith
+top-under (suc n) t b k = let i = k (suc n) (omega arith) in let j = top-under n t b (λ x e. k x (omega arith)) in omega arith

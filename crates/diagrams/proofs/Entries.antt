@@ -1,0 +1,15 @@
+-- An edge's entry, at the place that the code reads and writes: edge x stands at place x - 1.
+use mathlib.Core.Path.{_≡_, ap}
+use mathlib.Core.List.{List}
+use Prim.Native.Nat.{ℕ, zero, suc, _-_, _≤_}
+use native.Mathlib.Omega.{arith}
+use lib.ListN.{getD, set}
+use Rattle.lists.specs.Lists.{at, put}
+
+pub at-place : (s : List ℕ) (x : ℕ) → 1 ≤ x → getD s (x - 1) 0 ≡ at s x
+at-place s zero h = absurd (omega arith)
+at-place s (suc i) h = let e : suc i - 1 ≡ i = omega arith in rw e
+
+pub put-place : (s : List ℕ) (x v : ℕ) → 1 ≤ x → set s (x - 1) v ≡ put s x v
+put-place s zero v h = absurd (omega arith)
+put-place s (suc i) v h = let e : suc i - 1 ≡ i = omega arith in rw e

@@ -1,0 +1,21 @@
+-- The arrays of a held diagram: what fill leaves of an array of zeros is the list, then zeros.
+use mathlib.Core.Path.{_≡_, refl, ap, _∙_}
+use mathlib.Core.List.{List, _++_}
+use Prim.Native.Nat.{ℕ, zero, suc, _-_, _≤_}
+use native.Mathlib.Omega.{arith}
+use lib.Dec.{leb}
+use lib.ListN.{length, drop, replicate, length-replicate}
+use Rattle.lists.specs.Lists.{pick}
+use Rattle.lists.proofs.Tests.{le-true}
+use Rattle.diagrams.specs.Held.{padded}
+
+drop-zeros : (m n : ℕ) → n ≤ m → drop {A = ℕ} n (replicate m 0) ≡ replicate (m - n) 0
+drop-zeros m zero h = let e : m - 0 ≡ m = omega arith in rw e
+drop-zeros zero (suc n) h = absurd (omega arith)
+drop-zeros (suc m) (suc n) h = let e : suc m - suc n ≡ m - n = omega arith in rw e (drop-zeros m n (omega arith))
+
+filled : (m : ℕ) (s : List ℕ) → length s ≤ m → pick (leb (length s) (length (replicate {A = ℕ} m 0))) (s ++ drop (length s) (replicate m 0)) (replicate m 0) ≡ s ++ replicate (m - length s) 0
+filled m s h = rw (length-replicate {A = ℕ} m 0, le-true (length s) m h, drop-zeros m (length s) h)
+
+pub filled-padded : (s : List ℕ) → length s ≤ 1024 → pick (leb (length s) (length (replicate {A = ℕ} 1024 0))) (s ++ drop (length s) (replicate 1024 0)) (replicate 1024 0) ≡ padded s
+filled-padded s h = filled 1024 s h

@@ -1,0 +1,232 @@
+-- Laws of the search: an edge is put on the list at most once, so the list has room; and a list that holds edge 1 and, with each
+-- edge, both its neighbours, holds every edge that is reached.
+use mathlib.Core.Path.{_≡_, refl, sym, ap, _∙_}
+use mathlib.Core.Logic.{_≢_, _⊎_, inl, inr, ⊎-elim, _↔_}
+use mathlib.Core.List.{List, [], _∷_, _++_}
+use Prim.Native.Nat.{ℕ, zero, suc, _+_, _-_, _≤_, _<_}
+use native.Mathlib.Omega.{arith}
+use native.Mathlib.Numerals.{add-one}
+use lib.ListN.{length, getD, take, set, replicate, length-set, length-replicate}
+use lib.Seq.{length-take-le, take-suc-set, take-suc, take-all, take-append-le, getD-take}
+use Rattle.lists.specs.Lists.{at, put, Has, has, Apart}
+use Rattle.lists.specs.Ranges.{Edge, down}
+use Rattle.lists.proofs.Tests.{same?, pick-all}
+use Rattle.lists.proofs.Lists.{has-true, has-false, has?, pigeons, has-getD, at-put-same, at-put-other, length-1}
+use Rattle.lists.proofs.Ranges.{has-down, length-down}
+use Rattle.diagrams.specs.Diagram.{Reached, here, black, white}
+use Rattle.diagrams.specs.Check.{Connected, AllOne}
+use Rattle.diagrams.specs.Search.{Mapped, joined, Search}
+use Rattle.diagrams.proofs.Diagrams.{edge-one, reached-edge}
+use Rattle.diagrams.proofs.Entries.{at-place, put-place}
+
+-- ---- one more element at the end
+
+has-left : (x : ℕ) (l m : List ℕ) → Has x l → Has x (l ++ m)
+has-left x [] m h = absurd h
+has-left x (y ∷ l) m (inl e) = inl e
+has-left x (y ∷ l) m (inr h) = inr (has-left x l m h)
+
+has-last : (x : ℕ) (l : List ℕ) → Has x (l ++ (x ∷ []))
+has-last x [] = inl refl
+has-last x (y ∷ l) = inr (has-last x l)
+
+last-or : (x y : ℕ) (l : List ℕ) → Has y (l ++ (x ∷ [])) → Has y l ⊎ (y ≡ x)
+last-or x y [] (inl e) = inr e
+last-or x y [] (inr h) = absurd h
+last-or x y (z ∷ l) (inl e) = inl (inl e)
+last-or x y (z ∷ l) (inr h) = ⊎-elim (λ i. inl (inr i)) inr (last-or x y l h)
+
+apart-last : (x : ℕ) (l : List ℕ) → Apart l → ¬ Has x l → Apart (l ++ (x ∷ []))
+apart-last x [] a n = (λ h. h, tt)
+apart-last x (y ∷ l) a n = (λ h. ⊎-elim (a .0) (λ e. n (inl (sym e))) (last-or x y l h), apart-last x l (a .1) (λ h. n (inr h)))
+
+-- ---- an edge on the list is there once
+
+pub joined-there : (x : ℕ) (l : List ℕ) → Has x l → joined x l ≡ l
+joined-there x l h = rw (has-true x l h)
+
+pub joined-new : (x : ℕ) (l : List ℕ) → ¬ Has x l → joined x l ≡ l ++ (x ∷ [])
+joined-new x l n = rw (has-false x l n)
+
+room : (n x : ℕ) (l : List ℕ) → Apart l → ((y : ℕ) → Has y l → Edge n y) → Edge n x → ¬ Has x l → length l < n
+room n x l a k e m = rw length-down at (pigeons (x ∷ l) (down n) (m, a) inside)
+  where
+    inside : (y : ℕ) → Has y (x ∷ l) → Has y (down n)
+    inside y (inl q) = has-down n y (rw q e)
+    inside y (inr h) = has-down n y (k y h)
+
+module _ {marks list : List ℕ} {count : ℕ} (s : Search marks list count) where
+  pub marked-there : (x : ℕ) → at marks x ≡ 1 → Has x (take count list)
+  marked-there x e = go (has? x (take count list))
+    where
+      go : Has x (take count list) ⊎ (¬ Has x (take count list)) → Has x (take count list)
+      go (inl h) = h
+      go (inr m) = let z = s .other x m in absurd (omega arith)
+
+  pub search-again : (x : ℕ) → Edge 1024 x → getD marks (x - 1) 0 ≡ 1 → take count list ≡ joined x (take count list)
+  search-again x e q = sym (joined-there x (take count list) (marked-there x (sym (at-place marks x (e .0)) ∙ q)))
+
+  module _ (x : ℕ) (e : Edge 1024 x) (n : getD marks (x - 1) 0 ≢ 1) where
+    new : ¬ Has x (take count list)
+    new h = n (at-place marks x (e .0) ∙ s .reached x h)
+
+    pub search-room : count < 1024
+    search-room = let z = room 1024 x (take count list) (s .apart) (s .edges) e new in let w = length-take-le count list (rw (s .list-long) (s .count-fits)) in omega arith
+
+    longer : take (count + 1) (set list count x) ≡ take count list ++ (x ∷ [])
+    longer = rw add-one (take-suc-set list count x (rw (s .list-long) search-room))
+
+    pub search-joined : take (count + 1) (set list count x) ≡ joined x (take count list)
+    search-joined = longer ∙ sym (joined-new x (take count list) new)
+
+    pub search-more : Search (set marks (x - 1) 1) (set list count x) (count + 1)
+    search-more = record {
+      marks-long = length-set marks (x - 1) 1 ∙ s .marks-long;
+      list-long = length-set list count x ∙ s .list-long;
+      count-fits = let l = search-room in omega arith;
+      edges = rw longer (λ y h. go y (last-or x y (take count list) h));
+      apart = rw longer (apart-last x (take count list) (s .apart) new);
+      reached = rw (longer, put-place marks x 1 (e .0)) (λ y h. mark y (same? y x) (last-or x y (take count list) h));
+      other = rw (longer, put-place marks x 1 (e .0)) (λ y m. unmarked y m);
+    }
+      where
+        go : (y : ℕ) → Has y (take count list) ⊎ (y ≡ x) → Edge 1024 y
+        go y (inl h) = s .edges y h
+        go y (inr q) = rw q e
+
+        mark : (y : ℕ) → (y ≡ x) ⊎ (y ≢ x) → Has y (take count list) ⊎ (y ≡ x) → at (put marks x 1) y ≡ 1
+        mark y (inl q) h = rw q (at-put-same marks x 1 (rw (s .marks-long) e))
+        mark y (inr d) (inl h) = at-put-other marks x 1 y d ∙ s .reached y h
+        mark y (inr d) (inr q) = absurd (d q)
+
+        unmarked : (y : ℕ) → ¬ Has y (take count list ++ (x ∷ [])) → at (put marks x 1) y ≡ 0
+        unmarked y m = at-put-other marks x 1 y (λ q. m (rw q (has-last x (take count list)))) ∙ s .other y (λ h. m (has-left y (take count list) (x ∷ []) h))
+
+-- ---- both neighbours of an edge have room
+
+module _ {s0 s1 : List ℕ} (m : Mapped s0 s1) (k : ℕ) (e : Edge (length s0) k) where
+  pub black-small : Edge 1024 (at s0 k)
+  black-small = let i = m .maps .black-in k e in let j = m .size in omega arith
+
+  pub white-small : Edge 1024 (at s1 k)
+  white-small = let i = m .maps .white-in k e in let j = m .size in omega arith
+
+-- ---- what the search has found
+
+-- the edges of l are reached, edge 1 is among them, and so are both neighbours of the first edges, done of them
+pub record Found (f g : ℕ → ℕ) (l : List ℕ) (done : ℕ) : Type 0 where
+  pub first : Has 1 l
+  pub sound : (x : ℕ) → Has x l → Reached f g 1 x
+  pub visited : done ≤ length l
+  pub closed : (x : ℕ) → Has x (take done l) → Has (f x) l × Has (g x) l
+
+joined-keeps : (x y : ℕ) (l : List ℕ) → Has y l → Has y (joined x l)
+joined-keeps x y l h = pick-all (Has y) (has x l) l (l ++ (x ∷ [])) (λ e. h) (λ e. has-left y l (x ∷ []) h)
+
+joined-has : (x : ℕ) (l : List ℕ) → Has x (joined x l)
+joined-has x l = go (has? x l)
+  where
+    go : Has x l ⊎ (¬ Has x l) → Has x (joined x l)
+    go (inl h) = rw (joined-there x l h) h
+    go (inr m) = rw (joined-new x l m) (has-last x l)
+
+joined-sound : (P : ℕ → Type 0) (x : ℕ) (l : List ℕ) → P x → ((y : ℕ) → Has y l → P y) → (y : ℕ) → Has y (joined x l) → P y
+joined-sound P x l p k y = pick-all (λ m. Has y m → P y) (has x l) l (l ++ (x ∷ [])) (λ e. k y) (λ e h. go (last-or x y l h))
+  where
+    go : Has y l ⊎ (y ≡ x) → P y
+    go (inl h) = k y h
+    go (inr q) = rw q p
+
+joined-longer : (x : ℕ) (l : List ℕ) → length l ≤ length (joined x l)
+joined-longer x l = pick-all (λ m. length l ≤ length m) (has x l) l (l ++ (x ∷ [])) (λ e. omega arith) (λ e. rw (length-1 l x) (omega arith))
+
+joined-start : (n x : ℕ) (l : List ℕ) → n ≤ length l → take n (joined x l) ≡ take n l
+joined-start n x l h = pick-all (λ m. take n m ≡ take n l) (has x l) l (l ++ (x ∷ [])) (λ e. refl) (λ e. take-append-le n l (x ∷ []) h)
+
+module _ (f g : ℕ → ℕ) where
+  pub found-first : Found f g (1 ∷ []) 0
+  found-first = record { first = inl refl; sound = only; visited = omega arith; closed = λ x h. absurd h }
+    where
+      only : (x : ℕ) → Has x (1 ∷ []) → Reached f g 1 x
+      only x (inl e) = rw e here
+      only x (inr h) = absurd h
+
+  module _ {l : List ℕ} {done : ℕ} (F : Found f g l done) where
+    pub found-more : (k : ℕ) → done < length l → k ≡ getD l done 0 → Found f g (joined (g k) (joined (f k) l)) (done + 1)
+    found-more k h e = record {
+      first = keeps 1 (F .first);
+      sound = joined-sound (Reached f g 1) (g k) (joined (f k) l) (white there) (joined-sound (Reached f g 1) (f k) l (black there) (F .sound));
+      visited = let i = joined-longer (f k) l in let j = joined-longer (g k) (joined (f k) l) in omega arith;
+      closed = rw (before, add-one, take-suc l done 0 h, ← e) (λ x m. near x (last-or k x (take done l) m));
+    }
+      where
+        there : Reached f g 1 k
+        there = F .sound k (rw e (has-getD l done h))
+
+        keeps : (y : ℕ) → Has y l → Has y (joined (g k) (joined (f k) l))
+        keeps y m = joined-keeps (g k) y (joined (f k) l) (joined-keeps (f k) y l m)
+
+        before : take (done + 1) (joined (g k) (joined (f k) l)) ≡ take (done + 1) l
+        before = joined-start (done + 1) (g k) (joined (f k) l) (let i = joined-longer (f k) l in omega arith) ∙ joined-start (done + 1) (f k) l (omega arith)
+
+        near : (x : ℕ) → Has x (take done l) ⊎ (x ≡ k) → Has (f x) (joined (g k) (joined (f k) l)) × Has (g x) (joined (g k) (joined (f k) l))
+        near x (inl m) = let c = F .closed x m in (keeps (f x) (c .0), keeps (g x) (c .1))
+        near x (inr q) = rw q (joined-keeps (g k) (f k) (joined (f k) l) (joined-has (f k) l), joined-has (g k) (joined (f k) l))
+
+    -- once every edge of the list is visited, it has all that are reached
+    pub found-all : length l ≤ done → {x : ℕ} → Reached f g 1 x → Has x l
+    found-all h here = F .first
+    found-all h (black {x = y} p) = F .closed y (rw (take-all done l h) (found-all h p)) .0
+    found-all h (white {x = y} p) = F .closed y (rw (take-all done l h) (found-all h p)) .1
+
+-- ---- the search's first state, its step and its end, as the code has them
+
+at-zeros : (n x : ℕ) → at (replicate n 0) x ≡ 0
+at-zeros n zero = refl
+at-zeros zero (suc i) = refl
+at-zeros (suc n) (suc zero) = refl
+at-zeros (suc n) (suc (suc i)) = at-zeros n (suc i)
+
+pub search-none : Search (replicate 1024 0) (replicate 1024 0) 0
+search-none = record {
+  marks-long = length-replicate {A = ℕ} 1024 0;
+  list-long = length-replicate {A = ℕ} 1024 0;
+  count-fits = omega arith;
+  edges = λ x h. absurd h;
+  apart = tt;
+  reached = λ x h. absurd h;
+  other = λ x m. at-zeros 1024 x;
+}
+
+module _ {s0 s1 marks list : List ℕ} {count done : ℕ} (m : Mapped s0 s1) (s : Search marks list count) (F : Found (at s0) (at s1) (take count list) done) where
+  listed-length : length (take count list) ≡ count
+  listed-length = length-take-le count list (rw (s .list-long) (s .count-fits))
+
+  module _ (h : done < count) where
+    listed-at : getD (take count list) done 0 ≡ getD list done 0
+    listed-at = getD-take count list done 0 h
+
+    pub listed-edge : Edge (length s0) (getD list done 0)
+    listed-edge = reached-edge (m .maps) (edge-one (m .maps)) (F .sound (getD list done 0) (rw listed-at at (has-getD (take count list) done (rw listed-length h))))
+
+    pub found-next : Found (at s0) (at s1) (joined (at s1 (getD list done 0)) (joined (at s0 (getD list done 0)) (take count list))) (done + 1)
+    found-next = found-more (at s0) (at s1) F (getD list done 0) (rw listed-length h) (sym listed-at)
+
+  -- every edge is visited: the marks of 1..n are all 1 exactly if every edge is reached
+  pub marks-connected : count ≤ done → AllOne (take (length s0) marks) ↔ Connected s0 s1
+  marks-connected h = (to, from)
+    where
+      n : ℕ
+      n = length s0
+
+      long : length (take n marks) ≡ n
+      long = length-take-le n marks (let i = m .size in let j = s .marks-long in omega arith)
+
+      to : AllOne (take n marks) → Connected s0 s1
+      to a zero e = absurd (omega arith)
+      to a (suc i) e = F .sound (suc i) (marked-there s (suc i) (sym (getD-take n marks i 0 (e .1)) ∙ a i (rw long (e .1))))
+
+      from : Connected s0 s1 → AllOne (take n marks)
+      from c i l =
+          let q : i < n = rw long at l in
+          getD-take n marks i 0 q ∙ s .reached (suc i) (found-all (at s0) (at s1) F (rw listed-length h) (c (suc i) (omega arith)))

@@ -1,0 +1,32 @@
+-- How check tests that a diagram is connected: the edges reached from edge 1 stand in a list, in the order in which they were
+-- reached, and each has its mark.
+--
+--   Mapped s0 s1             what check knows of the lists by then: they are maps of the edges 1..n, and n is at most 1,024
+--   joined x l               l with x at its end, unless x stands in l already
+--   Search marks list count  the first count places of list hold the edges reached so far, each once; a reached edge's mark is 1,
+--                            every other is 0
+use mathlib.Core.Path.{_≡_}
+use mathlib.Core.List.{List, [], _∷_, _++_}
+use Prim.Native.Nat.{ℕ, _≤_}
+use lib.ListN.{length, take}
+use Rattle.lists.specs.Lists.{pick, at, Has, has, Apart}
+use Rattle.lists.specs.Ranges.{Edge}
+use Rattle.diagrams.specs.Diagram.{Maps}
+use Rattle.diagrams.specs.Check.{Size, Lengths}
+
+pub record Mapped (s0 s1 : List ℕ) : Type 0 where
+  pub size : Size s0
+  pub lengths : Lengths s0 s1
+  pub maps : Maps (length s0) (at s0) (at s1)
+
+abbrev pub joined : ℕ → List ℕ → List ℕ
+joined x l = pick (has x l) l (l ++ (x ∷ []))
+
+pub record Search (marks list : List ℕ) (count : ℕ) : Type 0 where
+  pub marks-long : length marks ≡ 1024
+  pub list-long : length list ≡ 1024
+  pub count-fits : count ≤ 1024
+  pub edges : (x : ℕ) → Has x (take count list) → Edge 1024 x
+  pub apart : Apart (take count list)
+  pub reached : (x : ℕ) → Has x (take count list) → at marks x ≡ 1
+  pub other : (x : ℕ) → ¬ Has x (take count list) → at marks x ≡ 0

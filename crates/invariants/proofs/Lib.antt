@@ -1,0 +1,4 @@
+pub mod FixedEdges
+pub mod Walks
+pub mod Counts
+pub mod Differences

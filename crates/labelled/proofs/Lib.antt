@@ -1,0 +1,4 @@
+pub mod Arrays
+pub mod Underway
+pub mod Sofar
+pub mod Decided

@@ -1,0 +1,164 @@
+use borrow.Author.Needs.{needs}
+use mathlib.Core.Path.{_≡_, refl, sym, ap, _∙_}
+use mathlib.Core.List.{List, _∷_}
+use Prim.Native.Nat.{ℕ}
+use denote.Ref.{now}
+use mathlib.Core.Logic.{_≢_}
+use lib.ListN.{length, getD}
+use Rattle.labelled.proofs.Underway.{accepts-small, popped-edge, partner-edge, partner-small, partner-pending, did-W, did-J, did-B, did-F, bud-room, fork-room, fork-new}
+use Rattle.labelled.specs.Scratch.{Underway, Did}
+use Rattle.pending.specs.Ring.{Ring}
+use Rattle.lists.specs.Lists.{at, Has}
+use Rattle.lists.specs.Ranges.{Edge}
+use Rattle.labelled.proofs.events.event.Statement.{statement}
+use Rattle.labelled.proofs.events.event.Tie as tie
+use Rattle.labelled.proofs.events.event.Reads as reads
+use Rattle.labelled.proofs.events.event.Lts as lts
+use Rattle.labelled.proofs.events.follow.Reads as follow-reads
+use Rattle.labelled.proofs.events.fork.Reads as fork-reads
+use Rattle.labelled.proofs.events.give.Reads as give-reads
+use Rattle.labelled.proofs.events.join.Reads as join-reads
+use Rattle.lists.proofs.wide.Reads as wide-reads
+use Rattle.pending.proofs.pop.Reads as pop-reads
+
+-- the labelling under way, as the function finds it
+abbrev Found : tie.Start → List ℕ → ℕ → List ℕ → Type 0
+Found c o k r = Underway (now (c .args .s0)) (now (c .args .s1)) (now (c .args .labels)) (now (c .args .order)) (now (c .args .next)) (now (c .args .prev)) (c .args .given) o (k ∷ r)
+
+popped : (c : tie.After-pop) (o : List ℕ) (k : ℕ) (r : List ℕ) → Found (c .before .before .before .before .before) o k r → (c .pop .result ≡ k) × Ring (c .pop .last .0) (c .pop .last .1 .0) r
+popped c o k r u = c .pop .ensures (k ∷ r) (u .ring)
+
+partner : (c : tie.After-follow) (o : List ℕ) (k : ℕ) (r : List ℕ) → Found (c .before .before .before .before .before .before) o k r → c .follow .result ≡ at (now (c .before .before .before .before .before .before .args .s1)) k
+partner c o k r u = rw (← popped (c .before) o k r u .0) (c .follow .ensures)
+
+apart : (c : tie.Else1) (o : List ℕ) (k : ℕ) (r : List ℕ) → Found (c .before .before .before .before .before .before .before) o k r → at (now (c .before .before .before .before .before .before .before .args .s1)) k ≢ k
+apart c o k r u e = c .if1 .left (partner (c .before) o k r u ∙ e ∙ sym (popped (c .before .before) o k r u .0))
+
+labelled : (c : tie.Then2) (o : List ℕ) (k : ℕ) (r : List ℕ) → Found (c .before .before .before .before .before .before .before .before .before .before) o k r → getD (now (c .before .before .before .before .before .before .before .before .before .before .args .labels)) (at (now (c .before .before .before .before .before .before .before .before .before .before .args .s1)) k) 0 ≢ 0
+labelled c o k r u e = c .if2 .taken (rw (c .before .before .wide .ensures, partner (c .before .before .before .before) o k r u) e)
+
+unlabelled : (c : tie.Else2) (o : List ℕ) (k : ℕ) (r : List ℕ) → Found (c .before .before .before .before .before .before .before .before .before .before) o k r → getD (now (c .before .before .before .before .before .before .before .before .before .before .args .labels)) (at (now (c .before .before .before .before .before .before .before .before .before .before .args .s1)) k) 0 ≡ 0
+unlabelled c o k r u = rw (c .before .before .wide .ensures, partner (c .before .before .before .before) o k r u) at (c .if2 .left)
+
+-- the next edge round the partner's vertex, and the next
+second : (c : tie.After-follow2) (o : List ℕ) (k : ℕ) (r : List ℕ) → Found (c .before .before .before .before .before .before .before .before .before .before .before) o k r → c .follow2 .result ≡ at (now (c .before .before .before .before .before .before .before .before .before .before .before .args .s0)) (at (now (c .before .before .before .before .before .before .before .before .before .before .before .args .s1)) k)
+second c o k r u = rw (← partner (c .before .before .before .before .before) o k r u) (c .follow2 .ensures)
+
+fixed : (c : tie.Then3) (o : List ℕ) (k : ℕ) (r : List ℕ) → Found (c .before .before .before .before .before .before .before .before .before .before .before .before) o k r → at (now (c .before .before .before .before .before .before .before .before .before .before .before .before .args .s0)) (at (now (c .before .before .before .before .before .before .before .before .before .before .before .before .args .s1)) k) ≡ at (now (c .before .before .before .before .before .before .before .before .before .before .before .before .args .s1)) k
+fixed c o k r u = sym (second (c .before) o k r u) ∙ c .if3 .taken ∙ partner (c .before .before .before .before .before .before) o k r u
+
+moved : (c : tie.Else3) (o : List ℕ) (k : ℕ) (r : List ℕ) → Found (c .before .before .before .before .before .before .before .before .before .before .before .before) o k r → at (now (c .before .before .before .before .before .before .before .before .before .before .before .before .args .s0)) (at (now (c .before .before .before .before .before .before .before .before .before .before .before .before .args .s1)) k) ≢ at (now (c .before .before .before .before .before .before .before .before .before .before .before .before .args .s1)) k
+moved c o k r u e = c .if3 .left (second (c .before) o k r u ∙ e ∙ sym (partner (c .before .before .before .before .before .before) o k r u))
+
+third : (c : tie.After-follow3) (o : List ℕ) (k : ℕ) (r : List ℕ) → Found (c .before .before .before .before .before .before .before .before .before .before .before .before .before) o k r → c .follow3 .result ≡ at (now (c .before .before .before .before .before .before .before .before .before .before .before .before .before .args .s0)) (at (now (c .before .before .before .before .before .before .before .before .before .before .before .before .before .args .s0)) (at (now (c .before .before .before .before .before .before .before .before .before .before .before .before .before .args .s1)) k))
+third c o k r u = rw (← second (c .before .before) o k r u) (c .follow3 .ensures)
+
+pending : (c : tie.Then2) (o : List ℕ) (k : ℕ) (r : List ℕ) → Found (c .before .before .before .before .before .before .before .before .before .before) o k r → Has (c .before .before .before .before .follow .result) r
+pending c o k r u = rw (partner (c .before .before .before .before) o k r u) (partner-pending _ _ _ _ _ _ _ o k r u (apart (c .before .before .before) o k r u) (labelled c o k r u))
+
+new : (c : tie.After-follow3) (o : List ℕ) (k : ℕ) (r : List ℕ) → Found (c .before .before .before .before .before .before .before .before .before .before .before .before .before) o k r → (¬ Has (c .before .before .follow2 .result) r) × (¬ Has (c .follow3 .result) (c .before .before .follow2 .result ∷ r))
+new c o k r u = rw (second (c .before .before) o k r u, third c o k r u) (fork-new _ _ _ _ _ _ _ o k r u (apart (c .before .before .before .before .before .before) o k r u) (unlabelled (c .before .before .before) o k r u) (moved (c .before) o k r u))
+
+-- src/events.rt:95:9
+pop-requires : tie.Need-pop-requires
+pop-requires c κs = search needs
+
+-- src/events.rt:96:9
+follow-requires : tie.Need-follow-requires
+follow-requires c κs =
+    let (o, k, r, u) = c .before .before .before .before .before .pre in
+    rw (popped c o k r u .0, u .accepted .lengths) (popped-edge _ _ _ _ _ _ _ o k r u)
+
+-- src/events.rt:98:9
+returns : tie.Need-returns
+returns c = λ o k r u. did-W _ _ _ _ _ _ _ o k r u _ _ (sym (partner (c .before) o k r u) ∙ c .if1 .taken ∙ popped (c .before .before) o k r u .0) (popped (c .before .before) o k r u .1)
+
+-- src/events.rt:100:9
+wide-requires : tie.Need-wide-requires
+wide-requires c κs = search needs
+
+-- src/events.rt:101:17
+mul-label : tie.Need-mul-label
+mul-label c = search needs
+
+-- src/events.rt:101:17
+element-copy-out-label : tie.Need-element-copy-out-label
+element-copy-out-label c =
+    let (o, k, r, u) = c .before .before .before .before .before .before .before .before .pre in
+    rw (c .wide .ensures, partner (c .before .before) o k r u) (partner-small _ _ _ _ _ _ _ o k r u)
+
+-- src/events.rt:103:13
+join-requires : tie.Need-join-requires
+join-requires c κs =
+    let (o, k, r, u) = c .before .before .before .before .before .before .before .before .before .before .before .before .pre in
+    (r, popped (c .before .before .before .before .before .before .before) o k r u .1, pending (c .before .before) o k r u)
+
+-- src/events.rt:104:9
+returns-2 : tie.Need-returns-2
+returns-2 c = λ o k r u.
+    let j = c .join .ensures r (popped (c .before .before .before .before .before .before .before .before) o k r u .1) (pending (c .before .before .before) o k r u) in
+    did-J _ _ _ _ _ _ _ o k r u _ _ _ (apart (c .before .before .before .before .before .before) o k r u) (labelled (c .before .before .before) o k r u) (rw (partner (c .before .before .before .before .before .before .before) o k r u) at (j .0)) (rw (partner (c .before .before .before .before .before .before .before) o k r u) at (j .1))
+
+-- src/events.rt:106:9
+follow-requires-2 : tie.Need-follow-requires-2
+follow-requires-2 c κs =
+    let (o, k, r, u) = c .before .before .before .before .before .before .before .before .before .before .pre in
+    rw (partner (c .before .before .before .before) o k r u) (partner-edge _ _ _ _ _ _ _ o k r u)
+
+-- src/events.rt:108:13
+give-requires : tie.Need-give-requires
+give-requires c κs =
+    let (o, k, r, u) = c .before .before .before .before .before .before .before .before .before .before .before .before .before .before .pre in
+    (bud-room _ _ _ _ _ _ _ o k r u (apart (c .before .before .before .before .before .before .before) o k r u) (unlabelled (c .before .before .before .before) o k r u) (fixed (c .before .before) o k r u), rw (partner (c .before .before .before .before .before .before .before .before) o k r u) (partner-small _ _ _ _ _ _ _ o k r u))
+
+-- src/events.rt:109:9
+returns-3 : tie.Need-returns-3
+returns-3 c = λ o k r u. did-B _ _ _ _ _ _ _ o k r u _ _ _ _ _ (apart (c .before .before .before .before .before .before .before .before) o k r u) (unlabelled (c .before .before .before .before .before) o k r u) (fixed (c .before .before .before) o k r u) (rw (partner (c .before .before .before .before .before .before .before .before .before) o k r u) at (c .give .ensures .1 o (u .holds))) (popped (c .before .before .before .before .before .before .before .before .before .before) o k r u .1)
+
+-- src/events.rt:111:9
+follow-requires-3 : tie.Need-follow-requires-3
+follow-requires-3 c κs =
+    let (o, k, r, u) = c .before .before .before .before .before .before .before .before .before .before .before .before .pre in
+    rw (second (c .before) o k r u) (u .accepted .blacks _ (partner-edge _ _ _ _ _ _ _ o k r u))
+
+-- src/events.rt:112:9
+fork-requires : tie.Need-fork-requires
+fork-requires c κs =
+    let (o, k, r, u) = c .before .before .before .before .before .before .before .before .before .before .before .before .before .before .before .before .before .pre in
+    let e = partner-edge _ _ _ _ _ _ _ o k r u in
+    let small : (x : ℕ) → Edge (length (now (c .before .before .before .before .before .before .before .before .before .before .before .before .before .before .before .before .before .args .s0))) x → Edge 1024 x = λ x i. accepts-small _ _ 1 x (u .accepted) i in
+    (
+      (
+        fork-room _ _ _ _ _ _ _ o k r u (apart (c .before .before .before .before .before .before .before .before .before .before) o k r u) (unlabelled (c .before .before .before .before .before .before .before) o k r u) (moved (c .before .before .before .before .before) o k r u),
+        rw (partner (c .before .before .before .before .before .before .before .before .before .before .before) o k r u) (small _ e),
+        rw (second (c .before .before .before .before .before .before) o k r u) (small _ (u .accepted .blacks _ e)),
+        rw (third (c .before .before .before .before) o k r u) (small _ (u .accepted .blacks _ (u .accepted .blacks _ e))),
+      ),
+      (r, popped (c .before .before .before .before .before .before .before .before .before .before .before .before) o k r u .1, new (c .before .before .before .before) o k r u .0, new (c .before .before .before .before) o k r u .1),
+    )
+
+-- src/events.rt:90:1
+returns-4 : tie.Need-returns-4
+returns-4 c = λ o k r u.
+    did-F _ _ _ _ _ _ _ o k r u _ _ _ _ _ (apart (c .before .before .before .before .before .before .before .before .before .before .before) o k r u) (unlabelled (c .before .before .before .before .before .before .before .before) o k r u) (moved (c .before .before .before .before .before .before) o k r u)
+    (rw (partner (c .before .before .before .before .before .before .before .before .before .before .before .before) o k r u, second (c .before .before .before .before .before .before .before) o k r u, third (c .before .before .before .before .before) o k r u) at (c .fork .ensures .0 o (u .holds)))
+    (rw (second (c .before .before .before .before .before .before .before) o k r u, third (c .before .before .before .before .before) o k r u) at (c .fork .ensures .1 r (popped (c .before .before .before .before .before .before .before .before .before .before .before .before .before) o k r u .1) (new (c .before .before .before .before .before) o k r u .0) (new (c .before .before .before .before .before) o k r u .1)))
+
+pub event-spec : {M : Type 1} → statement M
+event-spec =
+    tie.close
+    (tie.spec
+    pop-requires
+    follow-requires
+    returns
+    wide-requires
+    mul-label
+    element-copy-out-label
+    join-requires
+    returns-2
+    follow-requires-2
+    give-requires
+    returns-3
+    follow-requires-3
+    fork-requires
+    returns-4)

@@ -1,0 +1,4 @@
+pub mod Stores
+pub mod EventLaws
+pub mod Spelling
+pub mod Examples

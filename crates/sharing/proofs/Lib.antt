@@ -1,0 +1,6 @@
+pub mod Partition
+pub mod SoundBook
+pub mod Accepted
+pub mod Ledger
+pub mod CallLaws
+pub mod Tickets

@@ -1,0 +1,4 @@
+pub mod Shares
+pub mod Holding
+pub mod Sound
+pub mod Calls

@@ -1,0 +1,73 @@
+// The share book, and what its operations answer.
+
+// A book divides the positions of one size among 1 to 32 shares. Entry j - 1 of each list is share j's; unused entries are 0.
+pub struct Book {
+    pub size: u64,
+    pub shares: u64,
+    // the latest tick of an accepted call
+    pub latest: u64,
+    // how many tickets have been issued
+    pub issued: u64,
+    // each share's next position
+    pub next: [u64; 32],
+    // the ticket that stands at each share, 0 where none does
+    pub ticket: [u64; 32],
+    // the tick at which that ticket lapses, 0 without a ticket
+    pub expiry: [u64; 32],
+}
+
+pub enum Opening {
+    Opened,
+    Refused(u16),
+}
+
+pub enum Claiming {
+    Ticket(u64),
+    Refused(u16),
+}
+
+pub enum Taking {
+    Given { share: u64, position: u64, length: u64 },
+    Refused(u16),
+}
+
+pub enum Committing {
+    Committed,
+    Refused(u16),
+}
+
+pub enum Releasing {
+    Released,
+    Refused(u16),
+}
+
+pub enum Reporting {
+    Progress { committed: u64, complete: bool },
+    Refused(u16),
+}
+
+// What the cores hand back: the answer and the book that the call leaves.
+pub struct OpenDone {
+    pub answer: Opening,
+    pub book: Book,
+}
+
+pub struct ClaimDone {
+    pub answer: Claiming,
+    pub book: Book,
+}
+
+pub struct TakeDone {
+    pub answer: Taking,
+    pub book: Book,
+}
+
+pub struct CommitDone {
+    pub answer: Committing,
+    pub book: Book,
+}
+
+pub struct ReleaseDone {
+    pub answer: Releasing,
+    pub book: Book,
+}

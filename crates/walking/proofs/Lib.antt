@@ -1,0 +1,4 @@
+pub mod Rest
+pub mod Texts
+pub mod Sizes
+pub mod Steps

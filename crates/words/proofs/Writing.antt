@@ -1,0 +1,189 @@
+-- Laws of writing bytes at a place: byte by byte, one piece after another, and the letters of a word event by event.
+use mathlib.Core.Path.{_≡_, refl, sym, ap, _∙_}
+use mathlib.Core.Logic.{_≢_}
+use mathlib.Core.List.{List, [], _∷_, _++_, append-assoc}
+use Prim.Native.Nat.{ℕ, zero, suc, _+_, _-_, _≤_, _<_}
+use native.Mathlib.Numerals.{add-one}
+use native.Mathlib.Nat.{add-zero}
+use native.Mathlib.Omega.{arith}
+use lib.ListN.{length, getD, set, take, drop, length-append, length-drop, length-set, drop-of-length-le, take-append-drop}
+use lib.Seq.{length-take-le, take-all, set-split, take-set-le, drop-set-lt, drop-cons, getD-set-same, take-at, drop-append-add, drop-drop}
+use Rattle.lists.proofs.Tests.{lt-true, lt-false, le-true, le-false}
+use Rattle.words.specs.Letters.{decimal, over, Wrote, Put, first-letter, event-letters, events-letters, letters, Lettering}
+use Rattle.words.specs.declared.Lettered.{Lettered}
+use Rattle.words.specs.declared.Lettered.the-variants.{Length, Refused}
+
+-- ---- at a place
+
+pub length-over : (d : List ℕ) (i : ℕ) (s : List ℕ) → i + length s ≤ length d → length (over d i s) ≡ length d
+length-over d i s h = let e = length-take-le i d (omega arith) in simp (length-append, length-drop, e) (omega arith)
+
+pub over-none : (d : List ℕ) (i : ℕ) → over d i [] ≡ d
+over-none d i = rw add-zero (take-append-drop i d)
+
+-- a single byte is a store
+pub over-byte : (d : List ℕ) (i b : ℕ) → i < length d → over d i (b ∷ []) ≡ set d i b
+over-byte d i b h = rw (add-one, set-split d i b h)
+
+store-tail : (d : List ℕ) (n b : ℕ) → n < length d → drop n (set d n b) ≡ b ∷ drop (suc n) d
+store-tail d n b h = rw (drop-cons (set d n b) n 0 (rw length-set h), getD-set-same d n b 0 h, drop-set-lt (suc n) d n b (omega arith))
+
+-- a piece from its last byte backwards
+pub over-last : (d : List ℕ) (i : ℕ) (s : List ℕ) (b : ℕ) → i + length s < length d → over d i (s ++ (b ∷ [])) ≡ over (set d (i + length s) b) i s
+over-last d i s b h =
+    let q : i + length (s ++ (b ∷ [])) ≡ suc (i + length s) = simp length-append (omega arith) in
+    rw (q, take-set-le i d (i + length s) b (omega arith), store-tail d (i + length s) b h, append-assoc s (b ∷ []) (drop (suc (i + length s)) d))
+
+drop-past : (p q : List ℕ) (n k : ℕ) → length p ≡ n → drop (n + k) (p ++ q) ≡ drop k q
+drop-past p q n k e = rw (← e) (drop-append-add p q k)
+
+-- one piece after another
+pub over-over : (d : List ℕ) (i : ℕ) (s t : List ℕ) → i + length s ≤ length d → over d i (s ++ t) ≡ over (over d i s) (i + length s) t
+over-over d i s t h =
+    rw (← append-assoc (take i d) s (drop n d), take-at p (drop n d) n long, drop-past p (drop n d) n (length t) long, drop-drop (length t) n d, far)
+    (simp append-assoc)
+  where
+    p : List ℕ
+    p = take i d ++ s
+
+    n : ℕ
+    n = i + length s
+
+    long : length p ≡ n
+    long = rw (length-append, length-take-le i d (omega arith))
+
+    far : i + length (s ++ t) ≡ n + length t
+    far = simp length-append (omega arith)
+
+-- ---- a write and the place after it
+
+pub wrote-byte : (d : List ℕ) (i b : ℕ) → i < length d → Wrote d i (b ∷ []) (i + 1) (set d i b)
+wrote-byte d i b h = record { next = refl; bytes = sym (over-byte d i b h) }
+
+pub wrote-then : (d : List ℕ) (i : ℕ) (s t : List ℕ) (r : ℕ) (e : List ℕ) (r′ : ℕ) (e′ : List ℕ) → i + length s ≤ length d → Wrote d i s r e → Wrote e r t r′ e′ → Wrote d i (s ++ t) r′ e′
+wrote-then d i s t r e r′ e′ h a b = record {
+  next = simp length-append (omega (arith, a .next, b .next));
+  bytes = b .bytes ∙ rw (a .next, a .bytes) (sym (over-over d i s t h));
+}
+
+-- where it fits, and where it does not
+pub wrote-put : (d : List ℕ) (i : ℕ) (s : List ℕ) (r : ℕ) (e : List ℕ) → i + length s ≤ length d → Wrote d i s r e → Put d i s r e
+wrote-put d i s r e h w = record { next = rw (le-true (i + length s) (length d) h) (w .next); bytes = rw (le-true (i + length s) (length d) h) (w .bytes) }
+
+pub put-wrote : (d : List ℕ) (i : ℕ) (s : List ℕ) (r : ℕ) (e : List ℕ) → i + length s ≤ length d → Put d i s r e → Wrote d i s r e
+put-wrote d i s r e h p = record { next = p .next ∙ rw (le-true (i + length s) (length d) h); bytes = p .bytes ∙ rw (le-true (i + length s) (length d) h) }
+
+pub put-short : (d : List ℕ) (i : ℕ) (s : List ℕ) → length d < i + length s → Put d i s i d
+put-short d i s h = record { next = rw (le-false (i + length s) (length d) h); bytes = rw (le-false (i + length s) (length d) h) }
+
+-- ---- letters
+
+pub event-one : (x : ℕ) → x < 3 → length (event-letters x) ≡ 1
+event-one zero h = refl
+event-one (suc zero) h = refl
+event-one (suc (suc zero)) h = refl
+event-one (suc (suc (suc d))) h = absurd (omega arith)
+
+pub event-jump : (x : ℕ) → 3 ≤ x → event-letters x ≡ 74 ∷ decimal (x - 3)
+event-jump zero h = absurd (omega arith)
+event-jump (suc zero) h = absurd (omega arith)
+event-jump (suc (suc zero)) h = absurd (omega arith)
+event-jump (suc (suc (suc d))) h = let e : suc (suc (suc d)) - 3 ≡ d = omega arith in rw e
+
+-- a J, and its number after it
+pub wrote-jump : (d : List ℕ) (i x r : ℕ) (e : List ℕ) → 3 ≤ x → i + length (event-letters x) ≤ length d → Put (set d i 74) (i + 1) (decimal (x - 3)) r e → Wrote d i (event-letters x) r e
+wrote-jump d i x r e j h p =
+    rw (event-jump x j) (wrote-then d i (74 ∷ []) (decimal (x - 3)) (i + 1) (set d i 74) r e (omega (arith, long)) (wrote-byte d i 74 (omega (arith, long))) (put-wrote (set d i 74) (i + 1) (decimal (x - 3)) r e (rw length-set (omega (arith, long))) p))
+  where
+    long : length (event-letters x) ≡ suc (length (decimal (x - 3)))
+    long = ap length (event-jump x j)
+
+pub events-from : (w : List ℕ) (i : ℕ) → i < length w → events-letters (drop i w) ≡ event-letters (getD w i 0) ++ events-letters (drop (i + 1) w)
+unfolding events-letters
+events-from w i h = rw (drop-cons w i 0 h, add-one, events-letters)
+
+pub length-from : (w : List ℕ) (i : ℕ) → i < length w → length (events-letters (drop i w)) ≡ length (event-letters (getD w i 0)) + length (events-letters (drop (i + 1) w))
+length-from w i h = rw (events-from w i h, length-append)
+
+pub events-over : (w : List ℕ) (i : ℕ) → length w ≤ i → events-letters (drop i w) ≡ []
+unfolding events-letters
+events-over w i h = rw (drop-of-length-le w h)
+
+-- the letters of w are being written at place i of d: e holds those of the first k events, before `next`
+pub record Rest (d : List ℕ) (i : ℕ) (w e : List ℕ) (next k : ℕ) : Type 0 where
+  pub place : next + length (events-letters (drop k w)) ≡ i + length (events-letters w)
+  pub within : i + length (events-letters w) ≤ length d
+  pub long : length e ≡ length d
+  pub rest : over e next (events-letters (drop k w)) ≡ over d i (events-letters w)
+
+pub rest-more : (d : List ℕ) (i : ℕ) (w e : List ℕ) (next k next′ : ℕ) (e′ : List ℕ)
+    → k < length w → Rest d i w e next k → Wrote e next (event-letters (getD w k 0)) next′ e′ → Rest d i w e′ next′ (k + 1)
+rest-more d i w e next k next′ e′ h l a = record {
+  place = omega (arith, a .next, n, l .place);
+  within = l .within;
+  long = ap length (a .bytes) ∙ length-over e next s room ∙ l .long;
+  rest = rw (a .next, a .bytes) (sym (over-over e next s t room)) ∙ ap (λ (u : List ℕ). over e next u) (sym (events-from w k h)) ∙ l .rest;
+}
+  where
+    s : List ℕ
+    s = event-letters (getD w k 0)
+
+    t : List ℕ
+    t = events-letters (drop (k + 1) w)
+
+    n : length (events-letters (drop k w)) ≡ length s + length t
+    n = length-from w k h
+
+    room : next + length s ≤ length e
+    room = omega (arith, n, l .place, l .within, l .long)
+
+pub rest-end : (d : List ℕ) (i : ℕ) (w e : List ℕ) (next k : ℕ) → length w ≤ k → Rest d i w e next k → Wrote d i (events-letters w) next e
+rest-end d i w e next k h l = record {
+  next = omega (arith, ap length none, l .place);
+  bytes = sym (over-none e next) ∙ ap (λ (u : List ℕ). over e next u) (sym none) ∙ l .rest;
+}
+  where
+    none : events-letters (drop k w) ≡ []
+    none = events-over w k h
+
+-- ---- the answer of `letters`
+
+letters-length : (x : ℕ) (w : List ℕ) → x < 2 → length (letters (x ∷ w)) ≡ suc (length (events-letters w))
+unfolding letters
+letters-length zero w h = refl
+letters-length (suc zero) w h = refl
+letters-length (suc (suc x)) w h = absurd (omega arith)
+
+pub lettering-none : (w d : List ℕ) → length w ≡ 0 → Lettering w d (Length 0) d
+unfolding letters
+lettering-none [] d h = record { answer = rw (le-true 0 (length d) (omega arith)); room = refl }
+lettering-none (x ∷ w) d h = absurd (omega arith)
+
+pub lettering-first : (w d : List ℕ) → 1 < getD w 0 0 → Lettering w d (Refused 22) d
+lettering-first [] d h = absurd (omega arith)
+lettering-first (x ∷ w) d h = record { answer = rw (lt-false x 2 h); room = refl }
+
+pub lettering-short : (x : ℕ) (w d : List ℕ) → x < 2 → length d ≤ length (events-letters w) → Lettering (x ∷ w) d (Refused 9) d
+lettering-short x w d h s = record { answer = rw (lt-true x 2 h, le-false (length (letters (x ∷ w))) (length d) (omega (arith, letters-length x w h))); room = refl }
+
+pub lettering-whole : (x b : ℕ) (w d : List ℕ) (n : ℕ) (e : List ℕ) → x < 2 → first-letter x ≡ b ∷ [] → length (events-letters w) < length d
+    → Wrote (set d 0 b) 1 (events-letters w) n e → Lettering (x ∷ w) d (Length n) e
+unfolding letters
+lettering-whole x b w d n e h f s a = record {
+  answer = rw (lt-true x 2 h, le-true (length (letters (x ∷ w))) (length d) (omega (arith, l))) (ap Length (size ∙ sym l));
+  room = rw (f, all .next) (all .bytes);
+}
+  where
+    l : length (letters (x ∷ w)) ≡ suc (length (events-letters w))
+    l = letters-length x w h
+
+    all : Wrote d 0 (b ∷ events-letters w) n e
+    all = wrote-then d 0 (b ∷ []) (events-letters w) 1 (set d 0 b) n e (omega arith) (wrote-byte d 0 b (omega arith)) a
+
+    size : n ≡ suc (length (events-letters w))
+    size = omega (arith, all .next)
+
+-- a word is its first item and the part after it
+pub lettering-split : (w d : List ℕ) (r : Lettered) (e : List ℕ) → length w ≢ 0 → Lettering (getD w 0 0 ∷ take (length w - 1) (drop 1 w)) d r e → Lettering w d r e
+lettering-split [] d r e h l = absurd (h refl)
+lettering-split (x ∷ w) d r e h l = rw (take-all (length (x ∷ w) - 1) w (omega arith)) at l

@@ -1,0 +1,88 @@
+-- Laws of the pile and of writing over the beginning of a list.
+use mathlib.Core.Path.{_≡_, refl, sym, ap, _∙_}
+use mathlib.Core.Logic.{_≢_, _⊎_, inl, inr}
+use mathlib.Core.List.{List, [], _∷_, _++_, append-assoc}
+use Prim.Native.Nat.{ℕ, zero, suc, _+_, _-_, _≤_, _<_}
+use native.Mathlib.Nat.{not-suc-le-zero}
+use native.Mathlib.Numerals.{add-one}
+use native.Mathlib.Omega.{arith}
+use lib.ListN.{length, getD, set, drop, length-append, length-drop, length-set}
+use lib.Seq.{getD-set-same, getD-set-other, drop-cons, set-at, set-append-left}
+use Rattle.lists.specs.Lists.{put, cut}
+use Rattle.lists.specs.Ranges.{Edge}
+use Rattle.lists.proofs.Tests.{same?}
+use Rattle.lists.proofs.Lists.{length-cut, length-1}
+use Rattle.words.specs.Outputs.{over}
+use Rattle.writing.specs.Midway.{three, Piled, Shifted}
+
+-- the items from place i on begin with the one there
+pub next-item : (w : List ℕ) (i : ℕ) → i < length w → drop i w ≡ getD w i 0 ∷ drop (i + 1) w
+next-item w i l = rw add-one (drop-cons w i 0 l)
+
+-- ---- the pile
+
+piled-same : (p q r : List ℕ) → ((j : ℕ) → j < length r → getD q j 0 ≡ getD p j 0) → Piled p r → Piled q r
+piled-same p q [] e h = tt
+piled-same p q (k ∷ r) e h = (e (length r) (omega arith) ∙ h .0, piled-same p q r (λ j l. e j (omega arith)) (h .1))
+
+pub piled-push : (pile r : List ℕ) (j v : ℕ) → j ≡ length r → j < length pile → Piled pile r → Piled (set pile j v) (v ∷ r)
+piled-push pile r j v e l h = (rw (← e) (getD-set-same pile j v 0 l), piled-same pile (set pile j v) r (λ i k. getD-set-other pile j i v 0 (λ q. omega arith)) h)
+
+-- d places below the top
+pub piled-at : (pile r : List ℕ) (d at : ℕ) → d < length r → at + suc d ≡ length r → Piled pile r → getD pile at 0 ≡ getD r d 0
+piled-at pile [] d at l e h = absurd (not-suc-le-zero l)
+piled-at pile (k ∷ r) zero at l e h = let q : at ≡ length r = omega arith in rw q (h .0)
+piled-at pile (k ∷ r) (suc d) at l e h = piled-at pile r d at (omega arith) (omega arith) (h .1)
+
+pub piled-cut : (p q r : List ℕ) (d at end : ℕ) → Shifted p q at end → d < length r → at + suc d ≡ length r → length r ≤ suc end → Piled p r → Piled q (cut d r)
+piled-cut p q [] d at end s l e m h = absurd (not-suc-le-zero l)
+piled-cut p q (k ∷ r) zero at end s l e m h = piled-same p q r (λ j i. s .below j (omega arith)) (h .1)
+piled-cut p q (k ∷ r) (suc d) at end s l e m h =
+    let z = length-cut d r (omega arith) in
+    (s .moved (length (cut d r)) (omega arith) (omega arith) ∙ rw z (h .0), piled-cut p q r d at end s (omega arith) (omega arith) (omega arith) (h .1))
+
+-- the loop that moves entries down: those before the place i are moved
+pub record Sliding (p q : List ℕ) (at i : ℕ) : Type 0 where
+  pub closed : Shifted p q at i
+  pub ahead : (j : ℕ) → i ≤ j → getD q j 0 ≡ getD p j 0
+
+pub sliding-none : (p : List ℕ) (at : ℕ) → Sliding p p at at
+sliding-none p at = record { closed = record { long = refl; below = λ j l. refl; moved = λ j l m. absurd (omega arith) }; ahead = λ j l. refl }
+
+pub sliding-more : (p q : List ℕ) (at i : ℕ) → at ≤ i → i < length p → Sliding p q at i → Sliding p (set q i (getD q (i + 1) 0)) at (i + 1)
+sliding-more p q at i l m s = record {
+  closed = record {
+    long = length-set q i _ ∙ s .closed .long;
+    below = λ j h. getD-set-other q i j _ 0 (λ e. omega arith) ∙ s .closed .below j h;
+    moved = λ j h g. go j h g (same? j i);
+  };
+  ahead = λ j h. getD-set-other q i j _ 0 (λ e. omega arith) ∙ s .ahead j (omega arith);
+}
+  where
+    go : (j : ℕ) → at ≤ j → j < i + 1 → (j ≡ i) ⊎ (j ≢ i) → getD (set q i (getD q (i + 1) 0)) j 0 ≡ getD p (suc j) 0
+    go j h g (inl e) = rw (e, getD-set-same q i (getD q (i + 1) 0) 0 (rw (s .closed .long) m), add-one) (s .ahead (suc i) (omega arith))
+    go j h g (inr n) = getD-set-other q i j _ 0 n ∙ s .closed .moved j h (omega arith)
+
+-- ---- a list whose beginning is written over
+
+pub over-length : (s a : List ℕ) → length s ≤ length a → length (over s a) ≡ length a
+over-length s a l = simp (length-append, length-drop) (omega arith)
+
+-- one entry more
+pub over-one : (s a : List ℕ) (i v : ℕ) → i ≡ length s → i < length a → set (over s a) i v ≡ over (s ++ (v ∷ [])) a
+over-one s a i v e l = rw (length-1, drop-cons a (length s) 0 (omega arith), set-at s (getD a (length s) 0) (drop (suc (length s)) a) v i (sym e), append-assoc)
+
+pub over-three : (s a : List ℕ) (i x y z : ℕ) → i ≡ length s → i + 3 ≤ length a → three (over s a) i x y z ≡ over (s ++ (x ∷ y ∷ z ∷ [])) a
+over-three s a i x y z e l =
+    ap (λ (t : List ℕ). set (set t (i + 1) y) (i + 2) z) (over-one s a i x e (omega arith))
+    ∙ ap (λ (t : List ℕ). set t (i + 2) z) (over-one (s ++ (x ∷ [])) a (i + 1) y (rw length-1 (omega arith)) (omega arith))
+    ∙ over-one ((s ++ (x ∷ [])) ++ (y ∷ [])) a (i + 2) z (simp length-1 (omega arith)) (omega arith)
+    ∙ ap (λ (t : List ℕ). over t a) joined
+  where
+    joined : ((s ++ (x ∷ [])) ++ (y ∷ [])) ++ (z ∷ []) ≡ s ++ (x ∷ y ∷ z ∷ [])
+    joined = simp append-assoc
+
+-- an entry already written
+pub over-put : (s a : List ℕ) (k v : ℕ) → Edge (length s) k → set (over s a) (k - 1) v ≡ over (put s k v) a
+over-put s a zero v e = absurd (omega arith)
+over-put s a (suc k) v e = let q : suc k - 1 ≡ k = omega arith in rw (q, length-set, set-append-left s (drop (length s) a) k v (e .1))

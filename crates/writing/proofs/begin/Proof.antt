@@ -1,0 +1,67 @@
+-- `begin` leaves the lists and the pile as U or T does (`midway-U`, `midway-T`).
+use borrow.Author.Needs.{needs}
+use native.Mathlib.Omega.{arith}
+use Rattle.writing.proofs.Laws.{first-some, first-T, midway-U, midway-T}
+use Rattle.writing.proofs.begin.Statement.{statement}
+use Rattle.writing.proofs.begin.Tie as tie
+
+slice-write-s0 : tie.Need-slice-write-s0
+slice-write-s0 c = let (D, w, e, R) = c .before .before .before .pre .1 in let i = first-some D w _ e in omega (arith, R .room0)
+
+slice-write-s1 : tie.Need-slice-write-s1
+slice-write-s1 c = let (D, w, e, R) = c .before .before .before .pre .1 in let i = first-some D w _ e in omega (arith, R .room1)
+
+element-write-pile : tie.Need-element-write-pile
+element-write-pile c = search needs
+
+write-three-requires : tie.Need-write-three-requires
+write-three-requires c κs = let (D, w, e, R) = c .before .before .before .before .pre .1 in let i = first-T D w _ (c .before .match .rest .1) e in omega (arith, R .room0, i .1)
+
+write-three-requires-2 : tie.Need-write-three-requires-2
+write-three-requires-2 c κs = let (D, w, e, R) = c .before .before .before .before .before .before .before .before .pre .1 in let i = first-T D w _ (c .before .before .before .before .before .match .rest .1) e in omega (arith, R .room1, i .1)
+
+element-write-pile-2 : tie.Need-element-write-pile-2
+element-write-pile-2 c = search needs
+
+element-write-pile-3 : tie.Need-element-write-pile-3
+element-write-pile-3 c = search needs
+
+element-write-pile-4 : tie.Need-element-write-pile-4
+element-write-pile-4 c = search needs
+
+same-length : tie.Need-same-length
+same-length c = search needs
+
+same-length-2 : tie.Need-same-length-2
+same-length-2 c = search needs
+
+returns : tie.Need-returns
+returns c = λ D w e R. midway-U D w _ _ (c .before .before .before .args .pile .now) R (c .before .before .before .pre .0) (rw (c .match .keys1) at e)
+
+same-length-3 : tie.Need-same-length-3
+same-length-3 c = search needs
+
+same-length-4 : tie.Need-same-length-4
+same-length-4 c = search needs
+
+returns-2 : tie.Need-returns-2
+returns-2 c = λ D w e R. let i = first-T D w _ (c .before .before .before .before .before .before .before .before .match .rest .1) e in rw (c .before .before .write-three2 .ensures, c .before .before .before .before .before .before .write-three .ensures) (midway-T D w _ _ (c .before .before .before .before .before .before .before .before .before .before .before .args .pile .now) R (c .before .before .before .before .before .before .before .before .before .before .before .pre .0) (rw (i .0) at e))
+
+pub begin-spec : {M : Type 1} → statement M
+begin-spec =
+    tie.close
+    (tie.spec
+    slice-write-s0
+    slice-write-s1
+    element-write-pile
+    write-three-requires
+    write-three-requires-2
+    element-write-pile-2
+    element-write-pile-3
+    element-write-pile-4
+    same-length
+    same-length-2
+    returns
+    same-length-3
+    same-length-4
+    returns-2)

@@ -1,0 +1,74 @@
+-- `events` writes the whole diagram. The loop's invariant: from where it started, the items from place i on finish the same diagram.
+use borrow.Author.Needs.{needs}
+use mathlib.Core.Path.{_≡_, refl, _∙_}
+use mathlib.Core.List.{List}
+use Prim.Native.Nat.{ℕ, _-_, _≤_}
+use native.Mathlib.Omega.{arith}
+use lib.ListN.{length, drop, drop-of-length-le}
+use Rattle.writing.proofs.Lists.{next-item}
+use Rattle.words.specs.Word.{Pair}
+use Rattle.writing.specs.Midway.{Midway}
+use Rattle.writing.proofs.Laws.{midway-end}
+use Rattle.writing.proofs.events.Statement.{statement}
+use Rattle.writing.proofs.events.Tie as tie
+
+abbrev Inv-loop : tie.InvT-loop
+Inv-loop word pile₀ s0₀ s1₀ used height u₀ h₀ i₀ pile s0 s1 u h i = (i ≤ length word) × (length s0 ≡ length s0₀) × (length s1 ≡ length s1₀)
+    × ((D : Pair) (a0 a1 : List ℕ) → Midway D word a0 a1 pile₀ s0₀ s1₀ used height → Midway D (drop i word) a0 a1 pile s0 s1 u h)
+
+abbrev μ-loop : tie.MeasureT-loop
+μ-loop word pile₀ s0₀ s1₀ used height u₀ h₀ i₀ pile s0 s1 u h i = length word - i
+
+loop-holds : tie.Need-loop-holds Inv-loop μ-loop
+loop-holds c = (search needs, refl, refl, λ D a0 a1 M. M)
+
+mul-event : tie.Need-mul-event Inv-loop μ-loop
+mul-event c = search needs
+
+shared-slice-read-event : tie.Need-shared-slice-read-event Inv-loop μ-loop
+shared-slice-read-event c = search needs
+
+event-requires : tie.Need-event-requires Inv-loop μ-loop
+event-requires c κs =
+    let (D, a0, a1, M) = c .before .before .before .before .before .before .before .before .before .pre in
+    (D, _, a0, a1, rw (next-item (c .before .before .before .before .before .before .before .before .before .args .word .now) (c .before .before .before .before .before .loop .i) (omega arith)) at (c .before .before .before .before .before .loop .inv .3 D a0 a1 M))
+
+add-i : tie.Need-add-i Inv-loop μ-loop
+add-i c = search needs
+
+loop-less : tie.Need-loop-less Inv-loop μ-loop
+loop-less c = search needs
+
+loop-again : tie.Need-loop-again Inv-loop μ-loop
+loop-again c = (
+  search needs,
+  c .before .before .before .before .event .kept .1 .0 ∙ c .before .before .before .before .before .before .before .before .before .before .loop .inv .1,
+  c .before .before .before .before .event .kept .1 .1 .0 ∙ c .before .before .before .before .before .before .before .before .before .before .loop .inv .2,
+  λ D a0 a1 M. c .before .before .before .before .event .ensures D _ a0 a1 (rw (next-item (c .before .before .before .before .before .before .before .before .before .before .before .before .before .before .args .word .now) (c .before .before .before .before .before .before .before .before .before .before .loop .i) (omega arith)) at (c .before .before .before .before .before .before .before .before .before .before .loop .inv .3 D a0 a1 M)),
+)
+
+same-length : tie.Need-same-length Inv-loop μ-loop
+same-length c = c .before .loop .inv .1
+
+same-length-2 : tie.Need-same-length-2 Inv-loop μ-loop
+same-length-2 c = c .before .loop .inv .2
+
+returns : tie.Need-returns Inv-loop μ-loop
+returns c = λ D a0 a1 M. midway-end _ _ _ _ _ _ _ _ (rw (drop-of-length-le (c .before .before .before .before .before .args .word .now) (c .loop-test .left)) at (c .before .loop .inv .3 D a0 a1 M))
+
+pub events-spec : {M : Type 1} → statement M
+events-spec =
+    tie.close
+    (tie.spec
+    Inv-loop
+    μ-loop
+    loop-holds
+    mul-event
+    shared-slice-read-event
+    event-requires
+    add-i
+    loop-less
+    loop-again
+    same-length
+    same-length-2
+    returns)

@@ -1,0 +1,58 @@
+-- A diagram while its word is written out: what the lent lists and the pile of pending labels hold between two events.
+-- Lists named a are as they were lent, lists named b as they are now.
+--
+--   three s i a b c             s with a, b, c at the places i, i + 1, i + 2
+--   joined s a b                s with the labels a and b as each other's partners
+--   Piled pile pending          the pile holds the pending labels, the bottom of the stack at place 0
+--   Shifted p q at end          q is p with the entry at `at` taken out and those after it, up to the place `end`, moved down by one
+--   Room D a0 a1                the diagram D is of a listed size, and the lists have places enough for it
+--   Holds pending s0 s1 ..      the pile holds the pending labels, and the lists begin with s0 and s1, those of the labels given so far
+--   Midway D w ..               the items w finish the diagram D from here
+use mathlib.Core.Path.{_≡_}
+use mathlib.Core.Option.{some}
+use mathlib.Core.List.{List, [], _∷_}
+use Prim.Native.Nat.{ℕ, suc, _+_, _-_, _≤_, _<_}
+use lib.ListN.{length, getD, set}
+use Rattle.lists.specs.Lists.{All}
+use Rattle.lists.specs.Ranges.{Edge}
+use Rattle.words.specs.Word.{Pair, spells}
+use Rattle.words.specs.Outputs.{over}
+
+abbrev pub three : List ℕ → ℕ → ℕ → ℕ → ℕ → List ℕ
+three s i a b c = set (set (set s i a) (i + 1) b) (i + 2) c
+
+abbrev pub joined : List ℕ → ℕ → ℕ → List ℕ
+joined s a b = set (set s (a - 1) b) (b - 1) a
+
+abbrev pub Piled : List ℕ → List ℕ → Type 0
+Piled pile [] = Unit {0}
+Piled pile (k ∷ r) = (getD pile (length r) 0 ≡ k) × Piled pile r
+
+pub record Shifted (p q : List ℕ) (at end : ℕ) : Type 0 where
+  pub long : length q ≡ length p
+  pub below : (j : ℕ) → j < at → getD q j 0 ≡ getD p j 0
+  pub moved : (j : ℕ) → at ≤ j → j < end → getD q j 0 ≡ getD p (suc j) 0
+
+pub record Room (D : Pair) (a0 a1 : List ℕ) : Type 0 where
+  pub small : length (D .black) ≤ 50
+  pub room0 : length (D .black) ≤ length a0
+  pub room1 : length (D .black) ≤ length a1
+
+pub record Holds (pending s0 s1 a0 a1 pile b0 b1 : List ℕ) (used : ℕ) : Type 0 where
+  pub long : length pile ≡ 64
+  pub piled : Piled pile pending
+  pub used-is : used ≡ length s0
+  pub even : length s1 ≡ used
+  pub within : All (Edge used) pending
+  pub low : length pending ≤ used
+  pub s0-is : b0 ≡ over s0 a0
+  pub s1-is : b1 ≡ over s1 a1
+
+pub record Midway (D : Pair) (w a0 a1 pile b0 b1 : List ℕ) (used height : ℕ) : Type 0 where
+  pub pending : List ℕ
+  pub s0 : List ℕ
+  pub s1 : List ℕ
+  pub goes : spells w pending s0 s1 ≡ some D
+  pub holds : Holds pending s0 s1 a0 a1 pile b0 b1 used
+  pub height-is : height ≡ length pending
+  pub room : Room D a0 a1
