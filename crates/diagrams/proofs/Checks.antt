@@ -1,12 +1,13 @@
--- Laws of check's answer: what it accepts are the rooted diagrams of size 1 to 1,024, and each lent diagram has one answer only.
-use mathlib.Core.Path.{_≡_, refl, sym, ap, _∙_}
+-- Laws of check's answer: what it accepts are the rooted diagrams of size 1 to 1,024; refusal k is answered exactly if the k-th
+-- condition fails and none before it (refuses, refused-at); and each lent diagram has one answer only.
+use mathlib.Core.Path.{_≡_, refl, ap}
 use mathlib.Core.Logic.{_≢_, _⊎_, inl, inr, _↔_}
 use mathlib.Core.List.{List, [], _∷_}
 use Prim.Native.Nat.{ℕ, zero, suc, _<_, _≤_}
 use native.Mathlib.Omega.{arith}
 use lib.ListN.{length, getD, List·getD-eq-default}
 use Rattle.lists.proofs.Tests.{same?, lt?}
-use Rattle.diagrams.specs.Diagram.{Maps, Diagram, Rooted}
+use Rattle.diagrams.specs.Diagram.{Rooted}
 use Rattle.diagrams.specs.Check.{Size, Lengths, Root, Entries, Thrice, Twice, Connected, Accepts, Refuses, no-size, no-lengths, no-root, no-blacks, no-whites, no-thrice, no-twice, no-path, Checked}
 use Rattle.diagrams.specs.Search.{Mapped}
 use Rattle.diagrams.specs.declared.Verdict.{Verdict}
@@ -16,14 +17,17 @@ pub accepts-rooted : (s0 s1 : List ℕ) (root : ℕ) → Accepts s0 s1 root ↔ 
 accepts-rooted s0 s1 root = (to, from)
   where
     to : Accepts s0 s1 root → Size s0 × Rooted s0 s1 root
-    to a = (a .size, record {
-      lengths = a .lengths;
-      root-in = a .root-in;
-      diagram = record {
-        maps = record { some-edge = a .size .0; black-in = a .blacks; white-in = a .whites; thrice = a .thrice; twice = rw (← a .lengths) (a .twice) };
-        connected = a .connected;
-      };
-    })
+    to a = (
+      a .size,
+      record {
+        lengths = a .lengths;
+        root-in = a .root-in;
+        diagram = record {
+          maps = record { some-edge = a .size .0; black-in = a .blacks; white-in = a .whites; thrice = a .thrice; twice = rw (← a .lengths) (a .twice) };
+          connected = a .connected;
+        };
+      },
+    )
 
     from : Size s0 × Rooted s0 s1 root → Accepts s0 s1 root
     from r = record {

@@ -1,5 +1,5 @@
 -- An edge's entry, at the place that the code reads and writes: edge x stands at place x - 1.
-use mathlib.Core.Path.{_≡_, ap}
+use mathlib.Core.Path.{_≡_}
 use mathlib.Core.List.{List}
 use Prim.Native.Nat.{ℕ, zero, suc, _-_, _≤_}
 use native.Mathlib.Omega.{arith}

@@ -2,7 +2,7 @@
 --
 --   Size, .., Connected             what is asked, in 01's order; refusal k says that the k-th of these fails
 --   Accepts s0 s1 root              all eight hold: a rooted diagram of size 1 to 1,024
---   Refuses s0 s1 root k            the first seven as far as k, and not the k-th
+--   Refuses s0 s1 root k            what is asked before the k-th holds, and the k-th does not
 --   Checked s0 s1 root answer       the promise of check
 --   AllOne marks                    every mark is 1
 use mathlib.Core.Path.{_≡_}

@@ -1,4 +1,7 @@
-// Trivalent diagrams: the type with its limits, and check.
+// Trivalent diagrams: the type of a rooted diagram with its limits, and check, which says whether lent lists and a root are one.
+//
+// Check tests its conditions in document 01's order and answers the number of the first that fails, 1 to 8. It takes lists of any
+// length and any root, and its time is linear in the size: each edge is looked at a fixed number of times.
 use lists::fill;
 use lists::wide;
 ghost use mathlib.Core.Path.{_≡_};
@@ -8,11 +11,11 @@ ghost use mathlib.Core.List.{[], _∷_};
 ghost use lib.ListN.{length, take};
 ghost use Rattle.lists.specs.Lists.{at};
 ghost use Rattle.lists.specs.Ranges.{Edge};
-ghost use Rattle.diagrams.specs.Diagram.{Maps};
 ghost use Rattle.diagrams.specs.Check.{Entries, Thrice, Twice, Connected, Accepts, Checked, AllOne};
 ghost use Rattle.diagrams.specs.Held.{Held, MadeOf};
 ghost use Rattle.diagrams.specs.Search.{Mapped, joined, Search};
 
+// What check answers: Refused holds document 01's number.
 pub enum Verdict {
     Accepted,
     Refused(u16),
@@ -20,16 +23,22 @@ pub enum Verdict {
 
 // A rooted diagram held by value: its lists stand in the first size places, zeros after them.
 pub struct Diagram {
-    pub s0: [u16; 1024],
-    pub s1: [u16; 1024],
+    pub s0: [u16; Diagram::MAX_SIZE],
+    pub s1: [u16; Diagram::MAX_SIZE],
     pub size: u16,
     pub root: u16,
 }
 
+// What Diagram::checked answers.
+pub struct Made {
+    pub verdict: Verdict,
+    pub diagram: Diagram,
+}
+
 impl Diagram {
-    // Given diagrams have at most this size,
+    // The largest size of a given diagram.
     pub const MAX_SIZE: usize = 1024;
-    // and counted, listed and shared ones at most this.
+    // The largest size of a counted, listed or shared one.
     pub const MAX_LISTED: usize = 50;
 
     // The diagram of one edge, which both maps fix.
@@ -47,7 +56,7 @@ impl Diagram {
         }
     }
 
-    // The lent diagram, checked; a refusal comes with the single edge.
+    // The lent diagram by value where check accepts it; a refusal comes with the single edge.
     pub fn checked(s0: &[u16], s1: &[u16], root: u64) -> Made
         ensures { λ r. ⌜ MadeOf (now (s0 .entry)) (now (s1 .entry)) root r ⌝ }
     {
@@ -65,13 +74,7 @@ impl Diagram {
     }
 }
 
-// What making a diagram answers.
-pub struct Made {
-    pub verdict: Verdict,
-    pub diagram: Diagram,
-}
-
-// The lists and the root by value.
+// The lent lists and the root by value.
 fn held(s0: &[u16], s1: &[u16], root: u64) -> Diagram
     requires { ⌜ Accepts (now s0) (now s1) root ⌝ }
     ensures { λ r. ⌜ Held r (now (s0 .entry)) (now (s1 .entry)) root ⌝ }
@@ -88,21 +91,40 @@ fn held(s0: &[u16], s1: &[u16], root: u64) -> Diagram
     }
 }
 
-// Whether every mark is 1.
-pub fn all_reached(marks: &[u8]) -> bool
-    ensures { λ r. ⌜ (r ≡ true) ↔ AllOne (now (marks .entry)) ⌝ }
+// Whether the lent lists and root are a rooted diagram. 1 length of s0 is 0 or above 1,024; 2 lengths differ; 3 root outside 1..n;
+// 4 an s0 entry outside 1..n; 5 the same in s1; 6 s0 thrice moves an edge; 7 s1 twice does; 8 not connected.
+pub fn check(s0: &[u16], s1: &[u16], root: u64) -> Verdict
+    ensures { λ r. ⌜ Checked (now (s0 .entry)) (now (s1 .entry)) root r ⌝ }
 {
-    let mut i: usize = 0;
-    while i < marks.len() {
-        if marks[i] != 1 {
-            return false;
-        }
-        i += 1;
+    let n = s0.len();
+    if !within(n as u64, Diagram::MAX_SIZE) {
+        return Verdict::Refused(1);
     }
-    true
+    if s1.len() != n {
+        return Verdict::Refused(2);
+    }
+    if !within(root, n) {
+        return Verdict::Refused(3);
+    }
+    if !entries_in(s0) {
+        return Verdict::Refused(4);
+    }
+    if !entries_in(s1) {
+        return Verdict::Refused(5);
+    }
+    if !thrice(s0) {
+        return Verdict::Refused(6);
+    }
+    if !twice(s1) {
+        return Verdict::Refused(7);
+    }
+    if !connected(s0, s1) {
+        return Verdict::Refused(8);
+    }
+    Verdict::Accepted
 }
 
-// Whether x is one of 1..n.
+// Whether x is one of 1..n. Takes 64 bits, so that no size and no root is cut short before it is tested.
 fn within(x: u64, n: usize) -> bool
     ensures { λ r. ⌜ (r ≡ true) ↔ Edge n x ⌝ }
 {
@@ -112,7 +134,7 @@ fn within(x: u64, n: usize) -> bool
     x <= n as u64
 }
 
-// The edge that the list s leads to from edge x.
+// The next edge after x round its vertex, by the list s.
 fn next(s: &[u16], x: usize) -> usize
     requires { ⌜ Edge (length (now s)) x ⌝ }
     ensures { λ r. ⌜ r ≡ at (now (s .entry)) x ⌝ }
@@ -167,33 +189,8 @@ fn twice(s1: &[u16]) -> bool
     true
 }
 
-// Marks edge x and puts it on the list, unless it is marked already. Returns how many edges the list then has.
-fn reach(marks: &mut [u8; 1024], list: &mut [u16; 1024], count: usize, x: usize) -> usize
-    requires { ⌜ Search (now marks) (now list) count ⌝ }
-    requires { ⌜ Edge 1024 x ⌝ }
-    ensures { λ r. ⌜ Search (now (marks .exit)) (now (list .exit)) r × (take r (now (list .exit)) ≡ joined x (take count (now (list .entry)))) ⌝ }
-{
-    if marks[x - 1] == 1 {
-        return count;
-    }
-    marks[x - 1] = 1;
-    list[count] = x as u16;
-    count + 1
-}
-
-// Visits edge k, which the list has: its black and its white neighbour are reached.
-fn visit(s0: &[u16], s1: &[u16], marks: &mut [u8; 1024], list: &mut [u16; 1024], count: usize, k: usize) -> usize
-    requires { ⌜ Mapped (now s0) (now s1) ⌝ }
-    requires { ⌜ Edge (length (now s0)) k ⌝ }
-    requires { ⌜ Search (now marks) (now list) count ⌝ }
-    ensures { λ r. ⌜ Search (now (marks .exit)) (now (list .exit)) r
-        × (take r (now (list .exit)) ≡ joined (at (now (s1 .entry)) k) (joined (at (now (s0 .entry)) k) (take count (now (list .entry))))) ⌝ }
-{
-    let more = reach(marks, list, count, next(s0, k));
-    reach(marks, list, more, next(s1, k))
-}
-
-// Whether every edge is reached from edge 1. The list's first edges, done of them, are visited already.
+// Whether every edge is reached from edge 1. The list holds the edges reached so far, each once; its first ones, done of them, are
+// visited, and the others are still to visit.
 fn connected(s0: &[u16], s1: &[u16]) -> bool
     requires { ⌜ Mapped (now s0) (now s1) ⌝ }
     ensures { λ r. ⌜ (r ≡ true) ↔ Connected (now (s0 .entry)) (now (s1 .entry)) ⌝ }
@@ -211,34 +208,55 @@ fn connected(s0: &[u16], s1: &[u16]) -> bool
     all_reached(&marks[..n])
 }
 
-// Whether the lent lists and root are a rooted diagram, or the number of the first condition that fails.
-pub fn check(s0: &[u16], s1: &[u16], root: u64) -> Verdict
-    ensures { λ r. ⌜ Checked (now (s0 .entry)) (now (s1 .entry)) root r ⌝ }
+// Visits edge k of the list: the next edges round its black and its white vertex are reached.
+fn visit(
+    s0: &[u16],
+    s1: &[u16],
+    marks: &mut [u8; Diagram::MAX_SIZE],
+    list: &mut [u16; Diagram::MAX_SIZE],
+    count: usize,
+    k: usize,
+) -> usize
+    requires { ⌜ Mapped (now s0) (now s1) ⌝ }
+    requires { ⌜ Edge (length (now s0)) k ⌝ }
+    requires { ⌜ Search (now marks) (now list) count ⌝ }
+    ensures { λ r. ⌜ Search (now (marks .exit)) (now (list .exit)) r
+        × (take r (now (list .exit)) ≡ joined (at (now (s1 .entry)) k) (joined (at (now (s0 .entry)) k) (take count (now (list .entry))))) ⌝ }
 {
-    let n = s0.len();
-    if !within(n as u64, Diagram::MAX_SIZE) {
-        return Verdict::Refused(1);
+    let more = reach(marks, list, count, next(s0, k));
+    reach(marks, list, more, next(s1, k))
+}
+
+// Edge x is reached: it is marked and put at the end of the list, unless it was before. Returns how many edges the list then has.
+fn reach(
+    marks: &mut [u8; Diagram::MAX_SIZE],
+    list: &mut [u16; Diagram::MAX_SIZE],
+    count: usize,
+    x: usize,
+) -> usize
+    requires { ⌜ Search (now marks) (now list) count ⌝ }
+    requires { ⌜ Edge 1024 x ⌝ }
+    ensures { λ r. ⌜ Search (now (marks .exit)) (now (list .exit)) r × (take r (now (list .exit)) ≡ joined x (take count (now (list .entry)))) ⌝ }
+{
+    if marks[x - 1] == 1 {
+        return count;
     }
-    if s1.len() != n {
-        return Verdict::Refused(2);
+    marks[x - 1] = 1;
+    list[count] = x as u16;
+    count + 1
+}
+
+// Whether every mark is 1. A reached mark is one byte per edge, 1 when reached and otherwise 0; any other byte is no mark of a
+// reached edge.
+pub fn all_reached(marks: &[u8]) -> bool
+    ensures { λ r. ⌜ (r ≡ true) ↔ AllOne (now (marks .entry)) ⌝ }
+{
+    let mut i: usize = 0;
+    while i < marks.len() {
+        if marks[i] != 1 {
+            return false;
+        }
+        i += 1;
     }
-    if !within(root, n) {
-        return Verdict::Refused(3);
-    }
-    if !entries_in(s0) {
-        return Verdict::Refused(4);
-    }
-    if !entries_in(s1) {
-        return Verdict::Refused(5);
-    }
-    if !thrice(s0) {
-        return Verdict::Refused(6);
-    }
-    if !twice(s1) {
-        return Verdict::Refused(7);
-    }
-    if !connected(s0, s1) {
-        return Verdict::Refused(8);
-    }
-    Verdict::Accepted
+    true
 }

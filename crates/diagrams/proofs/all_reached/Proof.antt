@@ -1,3 +1,4 @@
+-- `all_reached` meets its contract: the loop has passed only marks that are 1.
 use mathlib.Core.Path.{_≡_}
 use Prim.Native.Nat.{ℕ, _≤_, _<_, _-_}
 use native.Mathlib.Omega.{arith}
@@ -7,8 +8,6 @@ use lib.ListN.{length, getD}
 use Rattle.diagrams.proofs.Answers.{answer-yes, answer-no}
 use Rattle.diagrams.proofs.all_reached.Statement.{statement}
 use Rattle.diagrams.proofs.all_reached.Tie as tie
-use Rattle.diagrams.proofs.all_reached.Reads as reads
-use Rattle.diagrams.proofs.all_reached.Lts as lts
 
 abbrev Inv-loop : tie.InvT-loop
 Inv-loop marks i₀ i = (i ≤ length marks) × ((k : ℕ) → k < i → getD marks k 0 ≡ 1)
@@ -16,31 +15,24 @@ Inv-loop marks i₀ i = (i ≤ length marks) × ((k : ℕ) → k < i → getD ma
 abbrev μ-loop : tie.MeasureT-loop
 μ-loop marks i₀ i = length marks - i
 
--- src/lib.rt:40:5
 loop-holds : tie.Need-loop-holds Inv-loop μ-loop
 loop-holds c = search needs
 
--- src/lib.rt:41:12
 shared-slice-read-if1 : tie.Need-shared-slice-read-if1 Inv-loop μ-loop
 shared-slice-read-if1 c = search needs
 
--- src/lib.rt:42:13
 returns : tie.Need-returns Inv-loop μ-loop
 returns c = answer-no (λ a. c .if1 .taken (a _ (search needs)))
 
--- src/lib.rt:44:9
 add-i : tie.Need-add-i Inv-loop μ-loop
 add-i c = search needs
 
--- src/lib.rt:40:5
 loop-less : tie.Need-loop-less Inv-loop μ-loop
 loop-less c = search needs
 
--- src/lib.rt:40:5
 loop-again : tie.Need-loop-again Inv-loop μ-loop
 loop-again c = (search needs, below-more _ _ (c .before .before .before .loop .inv .1) (c .if1 .left))
 
--- src/lib.rt:36:1
 returns-2 : tie.Need-returns-2 Inv-loop μ-loop
 returns-2 c = answer-yes (λ i l. c .before .loop .inv .1 i (omega arith))
 

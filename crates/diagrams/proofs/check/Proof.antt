@@ -1,3 +1,4 @@
+-- `check` meets its contract: past the k-th test the first k conditions hold (`past-k`); where it stops, the k-th fails.
 use Prim.Native.Nat.{ℕ}
 use borrow.Author.Needs.{needs}
 use borrow.Author.Tests.{not-true, not-false}
@@ -5,13 +6,6 @@ use Rattle.diagrams.proofs.Answers.{yes-holds, no-fails}
 use Rattle.diagrams.proofs.Checks.{Before, refuses, accepts, mapped}
 use Rattle.diagrams.proofs.check.Statement.{statement}
 use Rattle.diagrams.proofs.check.Tie as tie
-use Rattle.diagrams.proofs.check.Reads as reads
-use Rattle.diagrams.proofs.check.Lts as lts
-use Rattle.diagrams.proofs.connected.Reads as connected-reads
-use Rattle.diagrams.proofs.entries_in.Reads as entries-in-reads
-use Rattle.diagrams.proofs.thrice.Reads as thrice-reads
-use Rattle.diagrams.proofs.twice.Reads as twice-reads
-use Rattle.diagrams.proofs.within.Reads as within-reads
 
 -- what is asked under each number below k, of the arguments
 abbrev Past : tie.Start → ℕ → Type 0
@@ -41,67 +35,51 @@ past-7 c = (past-6 (c .before .before), yes-holds (c .before .twice .ensures) (n
 past-8 : (c : tie.Else8) → Past (c .before .before .before .before .before .before .before .before .before .before .before .before .before .before .before .before .before) 9
 past-8 c = (past-7 (c .before .before), yes-holds (c .before .connected .ensures) (not-false _ (c .if8 .left)))
 
--- src/lib.rt:219:9
 within-requires : tie.Need-within-requires
 within-requires c κs = search needs
 
--- src/lib.rt:220:9
 returns : tie.Need-returns
 returns c = refuses _ _ _ 1 (tt, tt) (no-fails (c .before .within .ensures) (not-true _ (c .if1 .taken)))
 
--- src/lib.rt:223:9
 returns-2 : tie.Need-returns-2
 returns-2 c = refuses _ _ _ 2 (past-1 (c .before)) (c .if2 .taken)
 
--- src/lib.rt:225:9
 within-requires-2 : tie.Need-within-requires-2
 within-requires-2 c κs = search needs
 
--- src/lib.rt:226:9
 returns-3 : tie.Need-returns-3
 returns-3 c = refuses _ _ _ 3 (past-2 (c .before .before)) (no-fails (c .before .within2 .ensures) (not-true _ (c .if3 .taken)))
 
--- src/lib.rt:228:9
 entries-in-requires : tie.Need-entries-in-requires
 entries-in-requires c κs = search needs
 
--- src/lib.rt:229:9
 returns-4 : tie.Need-returns-4
 returns-4 c = refuses _ _ _ 4 (past-3 (c .before .before)) (no-fails (c .before .entries-in .ensures) (not-true _ (c .if4 .taken)))
 
--- src/lib.rt:231:9
 entries-in-requires-2 : tie.Need-entries-in-requires-2
 entries-in-requires-2 c κs = search needs
 
--- src/lib.rt:232:9
 returns-5 : tie.Need-returns-5
 returns-5 c = refuses _ _ _ 5 (past-4 (c .before .before)) (rw (← past-2 (c .before .before .before .before .before .before) .1) (no-fails (c .before .entries-in2 .ensures) (not-true _ (c .if5 .taken))))
 
--- src/lib.rt:234:9
 thrice-requires : tie.Need-thrice-requires
 thrice-requires c κs = past-4 (c .before .before) .1
 
--- src/lib.rt:235:9
 returns-6 : tie.Need-returns-6
 returns-6 c = refuses _ _ _ 6 (past-5 (c .before .before)) (no-fails (c .before .thrice .ensures) (not-true _ (c .if6 .taken)))
 
--- src/lib.rt:237:9
 twice-requires : tie.Need-twice-requires
 twice-requires c κs = yes-holds (c .before .before .before .entries-in2 .ensures) (not-false _ (c .before .before .if5 .left))
 
--- src/lib.rt:238:9
 returns-7 : tie.Need-returns-7
 returns-7 c = refuses _ _ _ 7 (past-6 (c .before .before)) (no-fails (c .before .twice .ensures) (not-true _ (c .if7 .taken)))
 
--- src/lib.rt:240:9
 connected-requires : tie.Need-connected-requires
 connected-requires c κs = mapped _ _ _ (past-7 c)
 
--- src/lib.rt:241:9
 returns-8 : tie.Need-returns-8
 returns-8 c = refuses _ _ _ 8 (past-7 (c .before .before)) (no-fails (c .before .connected .ensures) (not-true _ (c .if8 .taken)))
 
--- src/lib.rt:215:1
 returns-9 : tie.Need-returns-9
 returns-9 c = accepts _ _ _ (past-8 c)
 

@@ -1,37 +1,28 @@
+-- `held` meets its contract: each list is filled into an array of zeros.
 use borrow.Author.Needs.{needs}
 use mathlib.Core.Path.{refl, _∙_}
 use Rattle.diagrams.proofs.Holding.{filled-padded}
 use Rattle.diagrams.proofs.held.Statement.{statement}
 use Rattle.diagrams.proofs.held.Tie as tie
-use Rattle.diagrams.proofs.held.Reads as reads
-use Rattle.diagrams.proofs.held.Lts as lts
-use Rattle.lists.proofs.fill.Reads as fill-reads
 
--- src/lib.rt:81:10
 slice-aggregate-fill : tie.Need-slice-aggregate-fill
 slice-aggregate-fill c = search needs
 
--- src/lib.rt:81:5
 fill-requires : tie.Need-fill-requires
 fill-requires c κs = search needs
 
--- src/lib.rt:82:10
 slice-aggregate-fill-2 : tie.Need-slice-aggregate-fill-2
 slice-aggregate-fill-2 c = search needs
 
--- src/lib.rt:82:5
 fill-requires-2 : tie.Need-fill-requires-2
 fill-requires-2 c κs = search needs
 
--- src/lib.rt:86:15
 cast-t14 : tie.Need-cast-t14
 cast-t14 c = search needs
 
--- src/lib.rt:87:15
 cast-t15 : tie.Need-cast-t15
 cast-t15 c = search needs
 
--- src/lib.rt:75:1
 returns : tie.Need-returns
 returns c = record {
   size = refl;

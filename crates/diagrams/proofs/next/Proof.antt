@@ -1,29 +1,22 @@
+-- `next` meets its contract: edge x stands at place x - 1.
 use borrow.Author.Needs.{needs}
 use mathlib.Core.Path.{_∙_}
 use Rattle.diagrams.proofs.Entries.{at-place}
 use Rattle.diagrams.proofs.next.Statement.{statement}
 use Rattle.diagrams.proofs.next.Tie as tie
-use Rattle.diagrams.proofs.next.Reads as reads
-use Rattle.diagrams.proofs.next.Lts as lts
-use Rattle.lists.proofs.wide.Reads as wide-reads
 
--- src/lib.rt:64:12
 sub-wide : tie.Need-sub-wide
 sub-wide c = search needs
 
--- src/lib.rt:64:10
 mul-wide : tie.Need-mul-wide
 mul-wide c = search needs
 
--- src/lib.rt:64:10
 shared-slice-read-wide : tie.Need-shared-slice-read-wide
 shared-slice-read-wide c = search needs
 
--- src/lib.rt:64:5
 wide-requires : tie.Need-wide-requires
 wide-requires c κs = search needs
 
--- src/lib.rt:60:1
 returns : tie.Need-returns
 returns c = c .wide .ensures ∙ at-place _ (c .before .before .before .args .x) (search needs)
 

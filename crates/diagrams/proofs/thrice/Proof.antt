@@ -1,16 +1,11 @@
+-- `thrice` meets its contract: the loop has passed only edges that three steps give back.
 use mathlib.Core.Path.{_≡_}
-use Prim.Native.Nat.{ℕ, _+_, _-_}
-use native.Mathlib.Omega.{arith}
-use lib.ListN.{length}
+use Prim.Native.Nat.{_+_, _-_}
 use borrow.Author.Needs.{needs}
 use Rattle.lists.specs.Lists.{at}
-use Rattle.lists.specs.Ranges.{Edge}
 use Rattle.diagrams.proofs.Answers.{answer-yes, answer-no, Passed, passed-none, passed-more, passed-all}
 use Rattle.diagrams.proofs.thrice.Statement.{statement}
 use Rattle.diagrams.proofs.thrice.Tie as tie
-use Rattle.diagrams.proofs.thrice.Reads as reads
-use Rattle.diagrams.proofs.thrice.Lts as lts
-use Rattle.diagrams.proofs.next.Reads as next-reads
 
 abbrev Inv-loop : tie.InvT-loop
 Inv-loop s0 n x₀ x = Passed (λ y. at s0 (at s0 (at s0 y)) ≡ y) n x
@@ -18,39 +13,30 @@ Inv-loop s0 n x₀ x = Passed (λ y. at s0 (at s0 (at s0 y)) ≡ y) n x
 abbrev μ-loop : tie.MeasureT-loop
 μ-loop s0 n x₀ x = n + 1 - x
 
--- src/lib.rt:89:5
 loop-holds : tie.Need-loop-holds Inv-loop μ-loop
 loop-holds c = passed-none _ _
 
--- src/lib.rt:90:30
 next-requires : tie.Need-next-requires Inv-loop μ-loop
 next-requires c κs = search needs
 
--- src/lib.rt:90:21
 next-requires-2 : tie.Need-next-requires-2 Inv-loop μ-loop
 next-requires-2 c κs = rw (c .next .ensures) (c .before .before .before .before .pre (c .before .before .loop .x) (search needs))
 
--- src/lib.rt:90:12
 next-requires-3 : tie.Need-next-requires-3 Inv-loop μ-loop
 next-requires-3 c κs = rw (c .next2 .ensures) (c .before .before .before .before .before .pre (c .before .next .result) (next-requires-2 (c .before) κs))
 
--- src/lib.rt:91:13
 returns : tie.Need-returns Inv-loop μ-loop
 returns c = answer-no (λ a. c .if1 .taken (cc (a (c .before .before .before .before .before .loop .x) (search needs))))
 
--- src/lib.rt:93:9
 add-x : tie.Need-add-x Inv-loop μ-loop
 add-x c = search needs
 
--- src/lib.rt:89:5
 loop-less : tie.Need-loop-less Inv-loop μ-loop
 loop-less c = search needs
 
--- src/lib.rt:89:5
 loop-again : tie.Need-loop-again Inv-loop μ-loop
 loop-again c = passed-more _ (c .before .before .before .before .before .loop .inv) (search needs) (cc)
 
--- src/lib.rt:83:1
 returns-2 : tie.Need-returns-2 Inv-loop μ-loop
 returns-2 c = answer-yes (passed-all _ (c .before .loop .inv) (search needs))
 

@@ -1,16 +1,11 @@
+-- `twice` meets its contract: the loop has passed only edges that two steps give back.
 use mathlib.Core.Path.{_≡_}
-use Prim.Native.Nat.{ℕ, _+_, _-_}
-use native.Mathlib.Omega.{arith}
-use lib.ListN.{length}
+use Prim.Native.Nat.{_+_, _-_}
 use borrow.Author.Needs.{needs}
 use Rattle.lists.specs.Lists.{at}
-use Rattle.lists.specs.Ranges.{Edge}
 use Rattle.diagrams.proofs.Answers.{answer-yes, answer-no, Passed, passed-none, passed-more, passed-all}
 use Rattle.diagrams.proofs.twice.Statement.{statement}
 use Rattle.diagrams.proofs.twice.Tie as tie
-use Rattle.diagrams.proofs.twice.Reads as reads
-use Rattle.diagrams.proofs.twice.Lts as lts
-use Rattle.diagrams.proofs.next.Reads as next-reads
 
 abbrev Inv-loop : tie.InvT-loop
 Inv-loop s1 n x₀ x = Passed (λ y. at s1 (at s1 y) ≡ y) n x
@@ -18,35 +13,27 @@ Inv-loop s1 n x₀ x = Passed (λ y. at s1 (at s1 y) ≡ y) n x
 abbrev μ-loop : tie.MeasureT-loop
 μ-loop s1 n x₀ x = n + 1 - x
 
--- src/lib.rt:105:5
 loop-holds : tie.Need-loop-holds Inv-loop μ-loop
 loop-holds c = passed-none _ _
 
--- src/lib.rt:106:21
 next-requires : tie.Need-next-requires Inv-loop μ-loop
 next-requires c κs = search needs
 
--- src/lib.rt:106:12
 next-requires-2 : tie.Need-next-requires-2 Inv-loop μ-loop
 next-requires-2 c κs = rw (c .next .ensures) (c .before .before .before .before .pre (c .before .before .loop .x) (search needs))
 
--- src/lib.rt:107:13
 returns : tie.Need-returns Inv-loop μ-loop
 returns c = answer-no (λ a. c .if1 .taken (cc (a (c .before .before .before .before .loop .x) (search needs))))
 
--- src/lib.rt:109:9
 add-x : tie.Need-add-x Inv-loop μ-loop
 add-x c = search needs
 
--- src/lib.rt:105:5
 loop-less : tie.Need-loop-less Inv-loop μ-loop
 loop-less c = search needs
 
--- src/lib.rt:105:5
 loop-again : tie.Need-loop-again Inv-loop μ-loop
 loop-again c = passed-more _ (c .before .before .before .before .loop .inv) (search needs) (cc)
 
--- src/lib.rt:99:1
 returns-2 : tie.Need-returns-2 Inv-loop μ-loop
 returns-2 c = answer-yes (passed-all _ (c .before .loop .inv) (search needs))
 
