@@ -26,8 +26,13 @@ module _ (s0 s1 : List ℕ) (root : ℕ) (la od nx pv a0 a1 aw b0 b1 bw : List �
       → ((o : List ℕ) → Holds la od (length s1) o → b1 ≡ listed (relabel o (at s1)) (length s1) ++ drop (length s1) a1)
       → Relabelled s0 s1 root a0 a1 aw b0 b1 bw (relabelling.Length m)
   unfolding characteristic
-  relabel-written n k0 k1 = (a, n, w .length-is, record {
-    s0-written = rw (length-listed (relabel (labels s0 s1 root) (at s0)) (length s0)) (k0 (labels s0 s1 root) (w .held));
-    s1-written = rw (length-listed (relabel (labels s0 s1 root) (at s1)) (length s0)) (rw (a .lengths) at (k1 (labels s0 s1 root) held-white));
-    word-written = rw (← w .length-is) (w .word-is);
-  })
+  relabel-written n k0 k1 = (
+    a,
+    n,
+    w .length-is,
+    record {
+      s0-written = rw (length-listed (relabel (labels s0 s1 root) (at s0)) (length s0)) (k0 (labels s0 s1 root) (w .held));
+      s1-written = rw (length-listed (relabel (labels s0 s1 root) (at s1)) (length s0)) (rw (a .lengths) at (k1 (labels s0 s1 root) held-white));
+      word-written = rw (← w .length-is) (w .word-is);
+    },
+  )

@@ -3,10 +3,10 @@ use mathlib.Core.Path.{_≡_, refl, sym}
 use mathlib.Core.Logic.{_≢_}
 use mathlib.Core.Bool.{Bool, true, false, true≢false}
 use mathlib.Core.List.{List, [], _∷_}
-use Prim.Native.Nat.{ℕ, _+_, _≤_, _<_}
+use Prim.Native.Nat.{ℕ, suc, _+_, _≤_, _<_}
 use native.Mathlib.Numerals.{add-one}
 use lib.Dec.{eqb}
-use lib.ListN.{length, getD, drop, drop-of-length-le}
+use lib.ListN.{length, getD, take, drop, drop-of-length-le}
 use lib.Seq.{drop-cons}
 use Rattle.lists.specs.Lists.{pick}
 use Rattle.lists.proofs.Tests.{eqb-same, eqb-ne, eqb-eq, eqb-true, both-true}
@@ -50,3 +50,12 @@ lesser-beaten u v = go (precedes v u) refl
     go : (b : Bool) → precedes v u ≡ b → precedes (pick b v u) u ≡ b
     go true e = e
     go false e = before-false u u (before-irrefl u)
+
+-- no more than one item past the end of u matters
+pub precedes-near : (u v : List ℕ) → precedes u (take (length u + 1) v) ≡ precedes u v
+precedes-near u v = rw (add-one (length u)) (near u v)
+  where
+    near : (u v : List ℕ) → precedes u (take (suc (length u)) v) ≡ precedes u v
+    near u [] = refl
+    near [] (y ∷ v) = refl
+    near (x ∷ u) (y ∷ v) = rw (near u v)

@@ -1,6 +1,6 @@
 // The operations that stand on the labelling: relabel, compare, symmetries, kept. Each first checks the diagrams it is lent (refusals 1
 // to 8); what it does with accepted ones is a function of its own, which makes the arrays once.
-mod rootings;
+pub mod rootings;
 
 use diagrams::Verdict;
 use labelled::tracing::trace;
@@ -19,22 +19,26 @@ ghost use Rattle.diagrams.specs.Isomorphism.{Alike, RootAlike};
 ghost use Rattle.labelling.specs.Rootings.{Kept, symmetries};
 ghost use Rattle.canonical.specs.Promises.{Relabelled, ComparedRooted, ComparedUnrooted, Symmetric, Marked};
 
+// The length of the word written, or a refusal.
 pub enum Relabelling {
     Length(u16),
     Refused(u16),
 }
 
+// Isomorphic or not, or a refusal with the side that it concerns.
 pub enum Comparison {
     Same,
     Different,
     Refused { number: u16, side: u16 },
 }
 
+// The number of symmetries, or a refusal.
 pub enum Symmetry {
     Count(u16),
     Refused(u16),
 }
 
+// The keep mark, or a refusal.
 pub enum KeepMark {
     Yes,
     No,
@@ -42,7 +46,14 @@ pub enum KeepMark {
 }
 
 // Relabels a diagram that is accepted: 9 where an output list is short.
-fn relabel_accepted(s0: &[u16], s1: &[u16], root: u64, t0: &mut [u16], t1: &mut [u16], word: &mut [u16]) -> Relabelling
+fn relabel_accepted(
+    s0: &[u16],
+    s1: &[u16],
+    root: u64,
+    t0: &mut [u16],
+    t1: &mut [u16],
+    word: &mut [u16],
+) -> Relabelling
     requires { ⌜ Accepts (now s0) (now s1) root ⌝ }
     ensures { λ r. ⌜ Relabelled (now (s0 .entry)) (now (s1 .entry)) root (now (t0 .entry)) (now (t1 .entry)) (now (word .entry)) (now (t0 .exit)) (now (t1 .exit)) (now (word .exit)) r ⌝ }
 {
@@ -60,14 +71,30 @@ fn relabel_accepted(s0: &[u16], s1: &[u16], root: u64, t0: &mut [u16], t1: &mut 
     let mut order = [0u16; 1025];
     let mut next = [0u16; 1025];
     let mut prev = [0u16; 1025];
-    let m = write_word(s0, s1, &mut labels, &mut order, &mut next, &mut prev, root as u16, word);
+    let m = write_word(
+        s0,
+        s1,
+        &mut labels,
+        &mut order,
+        &mut next,
+        &mut prev,
+        root as u16,
+        word,
+    );
     write_list(s0, &labels, &order, t0);
     write_list(s1, &labels, &order, t1);
     Relabelling::Length(m as u16)
 }
 
 // Writes a diagram's characteristic labelling and its word, and returns the word's length.
-pub fn relabel(s0: &[u16], s1: &[u16], root: u64, t0: &mut [u16], t1: &mut [u16], word: &mut [u16]) -> Relabelling
+pub fn relabel(
+    s0: &[u16],
+    s1: &[u16],
+    root: u64,
+    t0: &mut [u16],
+    t1: &mut [u16],
+    word: &mut [u16],
+) -> Relabelling
     ensures { λ r. ⌜ Relabelled (now (s0 .entry)) (now (s1 .entry)) root (now (t0 .entry)) (now (t1 .entry)) (now (word .entry)) (now (t0 .exit)) (now (t1 .exit)) (now (word .exit)) r ⌝ }
 {
     let verdict = diagrams::check(s0, s1, root);
@@ -91,8 +118,27 @@ fn alike_rooted(s0: &[u16], s1: &[u16], r: u64, t0: &[u16], t1: &[u16], q: u64) 
     let mut prev = [0u16; 1025];
     let mut own = [0u16; 1025];
     let mut cand = [0u16; 1025];
-    let m = own_word(t0, t1, &mut labels, &mut order, &mut next, &mut prev, q as u16, &mut own);
-    let k = trace(s0, s1, &mut labels, &mut order, &mut next, &mut prev, r as u16, &own[..m], &mut cand);
+    let m = own_word(
+        t0,
+        t1,
+        &mut labels,
+        &mut order,
+        &mut next,
+        &mut prev,
+        q as u16,
+        &mut own,
+    );
+    let k = trace(
+        s0,
+        s1,
+        &mut labels,
+        &mut order,
+        &mut next,
+        &mut prev,
+        r as u16,
+        &own[..m],
+        &mut cand,
+    );
     same(&cand[..k], &own[..m])
 }
 
@@ -110,8 +156,26 @@ fn alike_unrooted(s0: &[u16], s1: &[u16], t0: &[u16], t1: &[u16], q: u64) -> boo
     let mut prev = [0u16; 1025];
     let mut own = [0u16; 1025];
     let mut cand = [0u16; 1025];
-    let m = own_word(t0, t1, &mut labels, &mut order, &mut next, &mut prev, q as u16, &mut own);
-    some_rooting(s0, s1, &mut labels, &mut order, &mut next, &mut prev, &own[..m], &mut cand)
+    let m = own_word(
+        t0,
+        t1,
+        &mut labels,
+        &mut order,
+        &mut next,
+        &mut prev,
+        q as u16,
+        &mut own,
+    );
+    some_rooting(
+        s0,
+        s1,
+        &mut labels,
+        &mut order,
+        &mut next,
+        &mut prev,
+        &own[..m],
+        &mut cand,
+    )
 }
 
 // Compares two diagrams with their roots. Of a refusal it also tells the side.
@@ -138,7 +202,14 @@ pub fn compare_rooted(s0: &[u16], s1: &[u16], r: u64, t0: &[u16], t1: &[u16], q:
 }
 
 // Compares two diagrams without their roots.
-pub fn compare_unrooted(s0: &[u16], s1: &[u16], r: u64, t0: &[u16], t1: &[u16], q: u64) -> Comparison
+pub fn compare_unrooted(
+    s0: &[u16],
+    s1: &[u16],
+    r: u64,
+    t0: &[u16],
+    t1: &[u16],
+    q: u64,
+) -> Comparison
     ensures { λ a. ⌜ ComparedUnrooted (now (s0 .entry)) (now (s1 .entry)) r (now (t0 .entry)) (now (t1 .entry)) q a ⌝ }
 {
     let first = diagrams::check(s0, s1, r);
@@ -171,8 +242,26 @@ fn symmetries_accepted(s0: &[u16], s1: &[u16], root: u64) -> u16
     let mut prev = [0u16; 1025];
     let mut own = [0u16; 1025];
     let mut cand = [0u16; 1025];
-    let m = own_word(s0, s1, &mut labels, &mut order, &mut next, &mut prev, root as u16, &mut own);
-    rootings_with(s0, s1, &mut labels, &mut order, &mut next, &mut prev, &own[..m], &mut cand)
+    let m = own_word(
+        s0,
+        s1,
+        &mut labels,
+        &mut order,
+        &mut next,
+        &mut prev,
+        root as u16,
+        &mut own,
+    );
+    rootings_with(
+        s0,
+        s1,
+        &mut labels,
+        &mut order,
+        &mut next,
+        &mut prev,
+        &own[..m],
+        &mut cand,
+    )
 }
 
 // Counts a diagram's symmetries: the rootings with the same word.
@@ -197,8 +286,26 @@ fn kept_accepted(s0: &[u16], s1: &[u16], root: u64) -> bool
     let mut prev = [0u16; 1025];
     let mut own = [0u16; 1025];
     let mut cand = [0u16; 1025];
-    let m = own_word(s0, s1, &mut labels, &mut order, &mut next, &mut prev, root as u16, &mut own);
-    none_before(s0, s1, &mut labels, &mut order, &mut next, &mut prev, &own[..m], &mut cand)
+    let m = own_word(
+        s0,
+        s1,
+        &mut labels,
+        &mut order,
+        &mut next,
+        &mut prev,
+        root as u16,
+        &mut own,
+    );
+    none_before(
+        s0,
+        s1,
+        &mut labels,
+        &mut order,
+        &mut next,
+        &mut prev,
+        &own[..m],
+        &mut cand,
+    )
 }
 
 // Whether a diagram is kept: its word is the least among those of its rootings.

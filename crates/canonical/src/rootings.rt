@@ -29,12 +29,23 @@ pub fn same(a: &[u16], b: &[u16]) -> bool
     true
 }
 
-// Whether the lesser of own and the word c is not own.
+// Whether the lesser of own and the word c comes before own: whether it is c.
 fn beaten<'a>(own: &'a [u16], c: &'a [u16]) -> bool
     ensures { λ r. ⌜ r ≡ precedes (now (c .entry)) (now (own .entry)) ⌝ }
 {
     let least = words::lesser(own, c);
     words::precedes(least, own)
+}
+
+// The same at the cost of the word c alone: one item more of own decides as all of it does.
+fn beaten_soon<'a>(own: &'a [u16], c: &'a [u16]) -> bool
+    ensures { λ r. ⌜ r ≡ precedes (now (c .entry)) (now (own .entry)) ⌝ }
+{
+    let k = c.len();
+    if own.len() <= k {
+        return beaten(own, c);
+    }
+    beaten(&own[..k + 1], c)
 }
 
 // Whether no rooting's word comes before own.
@@ -59,7 +70,7 @@ pub fn none_before(
     while x < n {
         x += 1;
         let k = trace(s0, s1, labels, order, next, prev, x as u16, own, cand);
-        if beaten(own, &cand[..k]) {
+        if beaten_soon(own, &cand[..k]) {
             return false;
         }
     }

@@ -65,13 +65,16 @@ holds-give la od c x o hc hx h = record {
 take-last : (la od : List ℕ) (c : ℕ) (o : List ℕ) → c ≢ 0 → Holds la od c o → Apart o → ((x : ℕ) → Has x o → x < 1025) → c ≤ 1024
     → (getD od c 0 < 1025) × HoldsSome (set la (getD od c 0) 0) od (c - 1)
 take-last la od c [] n h a s r = absurd (n (h .given-is))
-take-last la od c (y ∷ o) n h a s r = rw last (s y (inl refl), record {
-  edges = o;
-  holds = record { labels-long = simp length-set (h .labels-long); order-long = h .order-long; given-is = let e = h .given-is in omega arith; label-of = λ x. label x (same? x y); edge-of = edge-at };
-  apart = a .1;
-  small = λ x i. s x (inr i);
-  room = omega arith;
-})
+take-last la od c (y ∷ o) n h a s r = rw last (
+  s y (inl refl),
+  record {
+    edges = o;
+    holds = record { labels-long = simp length-set (h .labels-long); order-long = h .order-long; given-is = let e = h .given-is in omega arith; label-of = λ x. label x (same? x y); edge-of = edge-at };
+    apart = a .1;
+    small = λ x i. s x (inr i);
+    room = omega arith;
+  },
+)
   where
     last : getD od c 0 ≡ y
     last = rw (h .given-is) (h .edge-of (suc (length o)) (omega arith) ∙ rw (eqb-same (suc (length o))))

@@ -125,9 +125,9 @@ module _ (s0 s1 : List ℕ) (root : ℕ) (la od nx pv : List ℕ) (c : ℕ) (a b
       apart = u .along .apart;
       small = λ x h. (let i = u .along .edges x h in let j = u .accepted .size in omega arith);
       room = let i = size (length s0) (at s0) (at s1) (accepts-maps s0 s1 1 (u .accepted)) (T .filled .sofar .marked) (T .filled .sofar .stack) (u .along) in
-             let j = u .accepted .size in
-             let l = u .holds .given-is in
-             omega arith;
+          let j = u .accepted .size in
+          let l = u .holds .given-is in
+          omega arith;
     };
     stack = T .filled .sofar .stack;
     ring = u .ring;

@@ -53,21 +53,21 @@ trace-requires c κs =
     let m = t .long in
     (accepts-rerooted _ _ 1 (c .before .before .before .before .before .before .before .before .before .before .before .pre .0) (c .before .before .before .before .before .before .loop .x + 1) (omega arith), (t .ready, omega arith))
 
-slice-reshare-prefix-beaten : tie.Need-slice-reshare-prefix-beaten Inv-loop μ-loop
-slice-reshare-prefix-beaten c = written (c .before .before)
+slice-reshare-prefix-beaten-soon : tie.Need-slice-reshare-prefix-beaten-soon Inv-loop μ-loop
+slice-reshare-prefix-beaten-soon c = written (c .before .before)
 
-slice-aggregate-beaten : tie.Need-slice-aggregate-beaten Inv-loop μ-loop
-slice-aggregate-beaten c = sym (length-take-le _ _ (written (c .before .before .before)))
+slice-aggregate-beaten-soon : tie.Need-slice-aggregate-beaten-soon Inv-loop μ-loop
+slice-aggregate-beaten-soon c = sym (length-take-le _ _ (written (c .before .before .before)))
 
-beaten-requires : tie.Need-beaten-requires Inv-loop μ-loop
-beaten-requires c κs = search needs
+beaten-soon-requires : tie.Need-beaten-soon-requires Inv-loop μ-loop
+beaten-soon-requires c κs = search needs
 
 same-length : tie.Need-same-length Inv-loop μ-loop
 same-length c = length-kept (c .before .before .before .before .before)
 
 returns : tie.Need-returns Inv-loop μ-loop
 returns c = (
-  (λ e. absurd (true≢false (sym e)), λ k. absurd (none-fails _ _ _ _ (c .before .before .before .before .before .before .before .before .before .before .before .before .loop .x) (c .before .before .before .before .before .trace .ensures .1 .0) (search needs) (sym (c .before .beaten .ensures) ∙ c .if1 .taken) k)),
+  (λ e. absurd (true≢false (sym e)), λ k. absurd (none-fails _ _ _ _ (c .before .before .before .before .before .before .before .before .before .before .before .before .loop .x) (c .before .before .before .before .before .trace .ensures .1 .0) (search needs) (sym (c .before .beaten-soon .ensures) ∙ c .if1 .taken) k)),
   c .before .before .before .before .before .trace .ensures .1 .1,
 )
 
@@ -77,7 +77,7 @@ loop-less c = search needs
 loop-again : tie.Need-loop-again Inv-loop μ-loop
 loop-again c = (
   record { size-is = c .before .before .before .before .before .before .before .before .before .before .before .before .loop .inv .0 .size-is; within = search needs; ready = c .before .before .before .before .before .trace .ensures .1 .1; long = length-kept (c .before .before .before .before .before) },
-  none-more _ _ _ _ (c .before .before .before .before .before .before .before .before .before .before .before .before .loop .x) (c .before .before .before .before .before .trace .ensures .1 .0) (c .before .before .before .before .before .before .before .before .before .before .before .before .loop .inv .1) (sym (c .before .beaten .ensures) ∙ c .if1 .left),
+  none-more _ _ _ _ (c .before .before .before .before .before .before .before .before .before .before .before .before .loop .x) (c .before .before .before .before .before .trace .ensures .1 .0) (c .before .before .before .before .before .before .before .before .before .before .before .before .loop .inv .1) (sym (c .before .beaten-soon .ensures) ∙ c .if1 .left),
 )
 
 same-length-2 : tie.Need-same-length-2 Inv-loop μ-loop
@@ -100,9 +100,9 @@ none-before-spec =
     add-x
     cast-trace
     trace-requires
-    slice-reshare-prefix-beaten
-    slice-aggregate-beaten
-    beaten-requires
+    slice-reshare-prefix-beaten-soon
+    slice-aggregate-beaten-soon
+    beaten-soon-requires
     same-length
     returns
     loop-less

@@ -50,8 +50,7 @@ fork-requires : tie.Need-fork-requires
 fork-requires c κs =
     let (s1, a) = c .before .before .before .before .before .before .before .before .before .before .before .pre .0 in
     let e = a .root-in in
-    let small : (x : ℕ) → Edge (length (now (c .before .before .before .before .before .before .before .before .before .before .before .args .s0))) x → Edge 1024 x = λ x i. accepts-small _ s1 _ x a i in
-    (
+    let small : (x : ℕ) → Edge (length (now (c .before .before .before .before .before .before .before .before .before .before .before .args .s0))) x → Edge 1024 x = λ x i. accepts-small _ s1 _ x a i in (
       (omega arith, small _ e, rw (c .before .before .before .before .before .before .before .before .before .follow .ensures) (small _ (a .blacks _ e)), rw (third (c .before .before .before .before)) (small _ (a .blacks _ (a .blacks _ e)))),
       (c .before .before .before .before .before .before .before .before .before .before .before .args .root ∷ [], rooted (c .before .before .before .before .before .before), new (c .before .before .before .before) s1 a .0, new (c .before .before .before .before) s1 a .1),
     )

@@ -107,8 +107,7 @@ fork-requires : tie.Need-fork-requires
 fork-requires c κs =
     let (o, k, r, u) = c .before .before .before .before .before .before .before .before .before .before .before .before .before .before .before .before .before .pre in
     let e = partner-edge _ _ _ _ _ _ _ o k r u in
-    let small : (x : ℕ) → Edge (length (now (c .before .before .before .before .before .before .before .before .before .before .before .before .before .before .before .before .before .args .s0))) x → Edge 1024 x = λ x i. accepts-small _ _ 1 x (u .accepted) i in
-    (
+    let small : (x : ℕ) → Edge (length (now (c .before .before .before .before .before .before .before .before .before .before .before .before .before .before .before .before .before .args .s0))) x → Edge 1024 x = λ x i. accepts-small _ _ 1 x (u .accepted) i in (
       (
         fork-room _ _ _ _ _ _ _ o k r u (apart (c .before .before .before .before .before .before .before .before .before .before) o k r u) (unlabelled (c .before .before .before .before .before .before .before) o k r u) (moved (c .before .before .before .before .before) o k r u),
         rw (partner (c .before .before .before .before .before .before .before .before .before .before .before) o k r u) (small _ e),

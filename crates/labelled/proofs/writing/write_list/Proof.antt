@@ -80,8 +80,8 @@ loop-again c = (
   refl,
   search needs,
   λ o h.
-    rw (c .before .before .before .before .before .loop .inv .2 o h, image (c .before), seen (now (c .before .before .before .before .before .before .before .before .args .s)) (now (c .before .before .before .before .before .before .before .before .args .labels)) (now (c .before .before .before .before .before .before .before .before .args .order)) o (c .before .before .before .before .before .loop .j) h (search needs))
-    (listed-more (relabel o (at (now (c .before .before .before .before .before .before .before .before .args .s)))) (now (c .before .before .before .before .before .before .before .before .args .t)) (c .before .before .before .before .before .loop .j) (search needs)),
+      rw (c .before .before .before .before .before .loop .inv .2 o h, image (c .before), seen (now (c .before .before .before .before .before .before .before .before .args .s)) (now (c .before .before .before .before .before .before .before .before .args .labels)) (now (c .before .before .before .before .before .before .before .before .args .order)) o (c .before .before .before .before .before .loop .j) h (search needs))
+      (listed-more (relabel o (at (now (c .before .before .before .before .before .before .before .before .args .s)))) (now (c .before .before .before .before .before .before .before .before .args .t)) (c .before .before .before .before .before .loop .j) (search needs)),
 )
 
 same-length : tie.Need-same-length Inv-loop μ-loop
