@@ -8,9 +8,10 @@ use lib.ListN.{length, drop}
 use Rattle.lists.specs.Lists.{at, listed}
 use Rattle.lists.proofs.Lists.{length-listed}
 use Rattle.diagrams.specs.Check.{Accepts}
+use Rattle.words.specs.Outputs.{Short}
 use Rattle.labelling.specs.Labelling.{relabel, labels, characteristic}
 use Rattle.labelled.specs.Scratch.{Holds, Wrote}
-use Rattle.canonical.specs.Promises.{Short, Relabelled}
+use Rattle.canonical.specs.Promises.{Relabelled}
 use Rattle.canonical.specs.declared.Relabelling.the-variants as relabelling
 
 pub not-short : (n : ℕ) (a0 a1 aw : List ℕ) → n ≤ length a0 → n ≤ length a1 → n < length aw → ¬ Short n a0 a1 aw
