@@ -1,19 +1,17 @@
 -- Unranking: the event in whose block a place falls is the first item, and what is written grows by it.
-use mathlib.Core.Path.{_≡_, refl, sym, ap, _∙_}
+use mathlib.Core.Path.{_≡_, refl, ap, _∙_}
 use mathlib.Core.List.{List, [], _∷_, _++_, append-assoc, append-nil}
 use Prim.Native.Nat.{ℕ, zero, suc, _+_, _*_, _-_, _/_, _%_, _≤_, _<_}
 use native.Mathlib.Nat.{not-suc-le-zero, zero-mul, mod-lt, div-lt-iff-lt-mul}
 use native.Mathlib.Omega.{arith}
-use lib.Dec.{ltb}
 use lib.ListN.{length, set}
-use Rattle.lists.specs.Lists.{pick}
 use Rattle.lists.proofs.Lists.{length-1}
 use Rattle.lists.proofs.Tests.{lt-true, lt-false}
 use Rattle.words.specs.Outputs.{over}
-use Rattle.words.specs.Shape.{pre, less1, less3}
+use Rattle.words.specs.Shape.{pre}
 use Rattle.writing.proofs.Lists.{over-length, over-one}
 use Rattle.counting.specs.Listing.{ways}
-use Rattle.counting.specs.Ranking.{jump, forks, buds, unranked}
+use Rattle.counting.specs.Ranking.{forks, buds, unranked}
 use Rattle.counting.proofs.Tails.{pre-le}
 use Rattle.positions.specs.Steps.{Chosen, Unranking}
 use Rattle.positions.proofs.EventBlocks.{ways-parts, forks-some, buds-some, block-some, jump-divides}

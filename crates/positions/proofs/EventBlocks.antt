@@ -1,13 +1,12 @@
 -- The blocks of the ways to go on, by their first event: how long they are, and in which of several equal blocks a place falls.
-use mathlib.Core.Path.{_≡_, refl, _∙_}
+use mathlib.Core.Path.{_≡_, refl}
 use mathlib.Core.Logic.{_⊎_, inl, inr}
 use mathlib.Core.List.{List, _∷_}
 use Prim.Native.Nat.{ℕ, zero, suc, _+_, _*_, _-_, _/_, _%_, _≤_, _<_}
 use native.Mathlib.Nat.{not-suc-le-zero, zero-mul, mul-zero, suc-mul, div-eq-of-lt, div-eq-sub-div, mod-eq-of-lt, mod-eq-sub-mod}
 use native.Mathlib.Omega.{arith}
-use lib.Dec.{ltb}
 use Rattle.lists.proofs.Tests.{lt-true, lt-false, lt?}
-use Rattle.words.specs.Shape.{pre, less1, less3}
+use Rattle.words.specs.Shape.{pre}
 use Rattle.counting.specs.Listing.{ways}
 use Rattle.counting.specs.Ranking.{jump, forks, buds}
 use Rattle.counting.proofs.Tails.{ways-suc}

@@ -1,10 +1,9 @@
 -- Ranking: of the ways to go on, those that begin with an event before an item's, one law for each event; and none of these sums grows large.
-use mathlib.Core.Path.{_≡_, refl, sym, ap, _∙_}
+use mathlib.Core.Path.{_≡_, refl}
 use mathlib.Core.List.{List, [], _∷_}
 use Prim.Native.Nat.{ℕ, zero, suc, _+_, _*_, _-_, _^_, _≤_, _<_}
-use native.Mathlib.Nat.{not-suc-le-zero}
 use native.Mathlib.Omega.{arith}
-use Rattle.words.specs.Shape.{pre, less1, less3, Fits}
+use Rattle.words.specs.Shape.{pre, Fits}
 use Rattle.counting.specs.Listing.{ways}
 use Rattle.counting.specs.Ranking.{forks, buds, rank}
 use Rattle.counting.proofs.Tails.{pre-le}
