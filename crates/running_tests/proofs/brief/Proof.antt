@@ -1,55 +1,40 @@
+-- `brief` is safe: the parts lie within the lists.
 use mathlib.Core.Path.{sym}
 use lib.Seq.{length-take-le}
 use borrow.Author.Needs.{needs}
 use Rattle.running_tests.proofs.brief.Statement.{statement}
 use Rattle.running_tests.proofs.brief.Tie as tie
-use Rattle.running_tests.proofs.brief.Reads as reads
-use Rattle.running_tests.proofs.brief.Lts as lts
-use Rattle.running.proofs.step.Reads as step-reads
-use Rattle.running_tests.proofs.outcome.Reads as outcome-reads
-use Rattle.running_tests.proofs.text.Reads as text-reads
 
--- src/main.rt:102:38
 array-borrow-prefix-s0 : tie.Need-array-borrow-prefix-s0
 array-borrow-prefix-s0 c = search needs
 
--- src/main.rt:102:38
 slice-aggregate-step : tie.Need-slice-aggregate-step
 slice-aggregate-step c = sym (length-take-le _ _ (search needs))
 
--- src/main.rt:102:56
 array-borrow-prefix-s1 : tie.Need-array-borrow-prefix-s1
 array-borrow-prefix-s1 c = search needs
 
--- src/main.rt:102:56
 slice-aggregate-step-2 : tie.Need-slice-aggregate-step-2
 slice-aggregate-step-2 c = sym (length-take-le _ _ (search needs))
 
--- src/main.rt:102:74
 array-borrow-prefix-word : tie.Need-array-borrow-prefix-word
 array-borrow-prefix-word c = search needs
 
--- src/main.rt:102:74
 slice-aggregate-step-3 : tie.Need-slice-aggregate-step-3
 slice-aggregate-step-3 c = sym (length-take-le _ _ (search needs))
 
--- src/main.rt:102:9
 step-requires : tie.Need-step-requires
 step-requires c κs = search needs
 
--- src/main.rt:104:5
 outcome-requires : tie.Need-outcome-requires
 outcome-requires c κs = search needs
 
--- src/main.rt:105:10
 slice-aggregate-text : tie.Need-slice-aggregate-text
 slice-aggregate-text c = search needs
 
--- src/main.rt:105:5
 text-requires : tie.Need-text-requires
 text-requires c κs = search needs
 
--- src/main.rt:96:1
 returns : tie.Need-returns
 returns c = search needs
 

@@ -1,10 +1,8 @@
+-- `counts` is safe and ends: n is at most 15.
 use Prim.Native.Nat.{_-_, _≤_}
 use borrow.Author.Needs.{needs}
 use Rattle.running_tests.proofs.counts.Statement.{statement}
 use Rattle.running_tests.proofs.counts.Tie as tie
-use Rattle.running_tests.proofs.counts.Reads as reads
-use Rattle.running_tests.proofs.counts.Lts as lts
-use Rattle.running_tests.proofs.diagrams.Reads as diagrams-reads
 
 abbrev Inv-loop : tie.InvT-loop
 Inv-loop n₀ n = n ≤ 15
@@ -12,27 +10,21 @@ Inv-loop n₀ n = n ≤ 15
 abbrev μ-loop : tie.MeasureT-loop
 μ-loop n₀ n = 15 - n
 
--- src/main.rt:192:5
 loop-holds : tie.Need-loop-holds Inv-loop μ-loop
 loop-holds c = search needs
 
--- src/main.rt:193:9
 diagrams-requires : tie.Need-diagrams-requires Inv-loop μ-loop
 diagrams-requires c κs = search needs
 
--- src/main.rt:194:9
 add-n : tie.Need-add-n Inv-loop μ-loop
 add-n c = search needs
 
--- src/main.rt:192:5
 loop-less : tie.Need-loop-less Inv-loop μ-loop
 loop-less c = search needs
 
--- src/main.rt:192:5
 loop-again : tie.Need-loop-again Inv-loop μ-loop
 loop-again c = search needs
 
--- src/main.rt:190:1
 returns : tie.Need-returns Inv-loop μ-loop
 returns c = search needs
 

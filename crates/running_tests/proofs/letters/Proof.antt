@@ -1,58 +1,43 @@
+-- `letters` is safe: the length of the part is tested.
 use mathlib.Core.Path.{sym}
 use lib.Seq.{length-take-le}
 use borrow.Author.Needs.{needs}
 use Rattle.running_tests.proofs.letters.Statement.{statement}
 use Rattle.running_tests.proofs.letters.Tie as tie
-use Rattle.running_tests.proofs.letters.Reads as reads
-use Rattle.running_tests.proofs.letters.Lts as lts
-use Rattle.running_tests.proofs.text.Reads as text-reads
-use Rattle.words.proofs.letters.Reads as letters-reads
 
--- src/main.rt:45:32
 slice-aggregate-letters : tie.Need-slice-aggregate-letters
 slice-aggregate-letters c = search needs
 
--- src/main.rt:45:11
 letters-requires : tie.Need-letters-requires
 letters-requires c κs = search needs
 
--- src/main.rt:46:26
 enum-known-n : tie.Need-enum-known-n
 enum-known-n c = search needs
 
--- src/main.rt:48:22
 array-share-prefix-out : tie.Need-array-share-prefix-out
 array-share-prefix-out c = search needs
 
--- src/main.rt:48:22
 slice-aggregate-text : tie.Need-slice-aggregate-text
 slice-aggregate-text c = sym (length-take-le _ _ (search needs))
 
--- src/main.rt:48:17
 text-requires : tie.Need-text-requires
 text-requires c κs = search needs
 
--- src/main.rt:51:38
 enum-told : tie.Need-enum-told
 enum-told c = search needs
 
--- src/main.rt:51:38
 slice-aggregate-text-2 : tie.Need-slice-aggregate-text-2
 slice-aggregate-text-2 c = search needs
 
--- src/main.rt:51:33
 text-requires-2 : tie.Need-text-requires-2
 text-requires-2 c κs = search needs
 
--- src/main.rt:43:1
 returns : tie.Need-returns
 returns c = search needs
 
--- src/main.rt:43:1
 returns-2 : tie.Need-returns-2
 returns-2 c = search needs
 
--- src/main.rt:43:1
 returns-3 : tie.Need-returns-3
 returns-3 c = search needs
 

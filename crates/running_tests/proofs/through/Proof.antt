@@ -1,11 +1,8 @@
-use Prim.Native.Nat.{_-_, _≤_}
+-- `through` is safe and ends after the turns asked for.
+use Prim.Native.Nat.{_-_}
 use borrow.Author.Needs.{needs}
 use Rattle.running_tests.proofs.through.Statement.{statement}
 use Rattle.running_tests.proofs.through.Tie as tie
-use Rattle.running_tests.proofs.through.Reads as reads
-use Rattle.running_tests.proofs.through.Lts as lts
-use Rattle.running_tests.proofs.begin.Reads as begin-reads
-use Rattle.running_tests.proofs.turn.Reads as turn-reads
 
 abbrev Inv-loop : tie.InvT-loop
 Inv-loop n turns run₀ k₀ run k = Unit {0}
@@ -13,31 +10,24 @@ Inv-loop n turns run₀ k₀ run k = Unit {0}
 abbrev μ-loop : tie.MeasureT-loop
 μ-loop n turns run₀ k₀ run k = turns - k
 
--- src/main.rt:131:9
 begin-requires : tie.Need-begin-requires Inv-loop μ-loop
 begin-requires c κs = search needs
 
--- src/main.rt:133:5
 loop-holds : tie.Need-loop-holds Inv-loop μ-loop
 loop-holds c = tt
 
--- src/main.rt:134:13
 turn-requires : tie.Need-turn-requires Inv-loop μ-loop
 turn-requires c κs = search needs
 
--- src/main.rt:136:9
 add-k : tie.Need-add-k Inv-loop μ-loop
 add-k c = search needs
 
--- src/main.rt:133:5
 loop-less : tie.Need-loop-less Inv-loop μ-loop
 loop-less c = search needs
 
--- src/main.rt:133:5
 loop-again : tie.Need-loop-again Inv-loop μ-loop
 loop-again c = tt
 
--- src/main.rt:128:1
 returns : tie.Need-returns Inv-loop μ-loop
 returns c = search needs
 
