@@ -7,13 +7,13 @@ ghost use Prim.Native.Nat.{_≤_};
 use canonical::KeepMark;
 use invariants::Measured;
 use invariants::Numbers;
+use libc::STDIN_FILENO;
+use libc::STDOUT_FILENO;
 use lines::put_byte;
 use lines::put_list;
 use lines::put_number;
 use lines::put_signed;
 use lines::put_text;
-use libc::STDIN_FILENO;
-use libc::STDOUT_FILENO;
 use positions::Total;
 use running::Run;
 use running::Stepping;
@@ -112,7 +112,14 @@ fn put_invariants(out: &mut [u8], at: usize, s0: &[u16], s1: &[u16]) -> usize {
 }
 
 // One line, but for the keep mark and the newline.
-fn put_row(out: &mut [u8], at: usize, position: u64, word: &[u16], s0: &[u16], s1: &[u16]) -> usize {
+fn put_row(
+    out: &mut [u8],
+    at: usize,
+    position: u64,
+    word: &[u16],
+    s0: &[u16],
+    s1: &[u16],
+) -> usize {
     let mut next = put_number(out, at, position);
     next = put_byte(out, next, b' ');
     next = put_word(out, next, word);
@@ -142,7 +149,14 @@ struct Standing {
 }
 
 // The line of a diagram: the run is at it, and it is the next to be listed.
-fn put_line(c: Standing, run: Run, word: &[u16], s0: &[u16], s1: &[u16], out: &mut [u8]) -> Standing {
+fn put_line(
+    c: Standing,
+    run: Run,
+    word: &[u16],
+    s0: &[u16],
+    s1: &[u16],
+    out: &mut [u8],
+) -> Standing {
     if MANY < c.listed {
         return c;
     }
