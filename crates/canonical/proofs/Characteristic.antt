@@ -1,16 +1,17 @@
 -- What relabel has written is the word and the characteristic labelling.
-use mathlib.Core.Path.{_≡_, sym, _∙_}
+use mathlib.Core.Path.{_≡_}
 use mathlib.Core.Logic.{⊎-elim}
 use mathlib.Core.List.{List, _++_}
-use Prim.Native.Nat.{ℕ, suc, _≤_, _<_}
+use Prim.Native.Nat.{ℕ, _≤_, _<_}
 use native.Mathlib.Omega.{arith}
 use lib.ListN.{length, drop}
 use Rattle.lists.specs.Lists.{at, listed}
 use Rattle.lists.proofs.Lists.{length-listed}
 use Rattle.diagrams.specs.Check.{Accepts}
+use Rattle.words.specs.Outputs.{Short}
 use Rattle.labelling.specs.Labelling.{relabel, labels, characteristic}
 use Rattle.labelled.specs.Scratch.{Holds, Wrote}
-use Rattle.canonical.specs.Promises.{Short, Written, Relabelled}
+use Rattle.canonical.specs.Promises.{Relabelled}
 use Rattle.canonical.specs.declared.Relabelling.the-variants as relabelling
 
 pub not-short : (n : ℕ) (a0 a1 aw : List ℕ) → n ≤ length a0 → n ≤ length a1 → n < length aw → ¬ Short n a0 a1 aw
@@ -26,8 +27,13 @@ module _ (s0 s1 : List ℕ) (root : ℕ) (la od nx pv a0 a1 aw b0 b1 bw : List �
       → ((o : List ℕ) → Holds la od (length s1) o → b1 ≡ listed (relabel o (at s1)) (length s1) ++ drop (length s1) a1)
       → Relabelled s0 s1 root a0 a1 aw b0 b1 bw (relabelling.Length m)
   unfolding characteristic
-  relabel-written n k0 k1 = (a, n, w .length-is, record {
-    s0-written = rw (length-listed (relabel (labels s0 s1 root) (at s0)) (length s0)) (k0 (labels s0 s1 root) (w .held));
-    s1-written = rw (length-listed (relabel (labels s0 s1 root) (at s1)) (length s0)) (rw (a .lengths) at (k1 (labels s0 s1 root) held-white));
-    word-written = rw (← w .length-is) (w .word-is);
-  })
+  relabel-written n k0 k1 = (
+    a,
+    n,
+    w .length-is,
+    record {
+      s0-written = rw (length-listed (relabel (labels s0 s1 root) (at s0)) (length s0)) (k0 (labels s0 s1 root) (w .held));
+      s1-written = rw (length-listed (relabel (labels s0 s1 root) (at s1)) (length s0)) (rw (a .lengths) at (k1 (labels s0 s1 root) held-white));
+      word-written = rw (← w .length-is) (w .word-is);
+    },
+  )

@@ -1,1 +1,4 @@
+pub mod Sameness
+pub mod Tried
+pub mod Comparing
 pub mod Characteristic

@@ -8,12 +8,12 @@
 --   Marked ..            kept
 use mathlib.Core.Path.{_≡_}
 use mathlib.Core.Logic.{_⊎_}
-use mathlib.Core.List.{List, _++_}
-use Prim.Native.Nat.{ℕ, suc, _<_}
-use lib.ListN.{length, drop}
+use mathlib.Core.List.{List}
+use Prim.Native.Nat.{ℕ}
+use lib.ListN.{length}
 use Rattle.diagrams.specs.Isomorphism.{Alike, RootAlike}
 use Rattle.diagrams.specs.Check.{Accepts, Refuses}
-use Rattle.words.specs.Word.{Pair}
+use Rattle.words.specs.Outputs.{Short, Written, Untouched}
 use Rattle.labelling.specs.Labelling.{wordOf, characteristic}
 use Rattle.labelling.specs.Rootings.{Kept, symmetries}
 use Rattle.canonical.specs.declared.Relabelling.{Relabelling}
@@ -24,21 +24,6 @@ use Rattle.canonical.specs.declared.Symmetry.{Symmetry}
 use Rattle.canonical.specs.declared.Symmetry.the-variants as symmetry
 use Rattle.canonical.specs.declared.KeepMark.{KeepMark}
 use Rattle.canonical.specs.declared.KeepMark.the-variants as mark
-
--- an output list is short: n, n, and n + 1 for the word
-abbrev pub Short : ℕ → List ℕ → List ℕ → List ℕ → Type 0
-Short n a0 a1 aw = (length a0 < n) ⊎ ((length a1 < n) ⊎ (length aw < suc n))
-
--- the lists hold the diagram D and the word w, and after them what they held
-pub record Written (D : Pair) (w a0 a1 aw b0 b1 bw : List ℕ) : Type 0 where
-  pub s0-written : b0 ≡ D .black ++ drop (length (D .black)) a0
-  pub s1-written : b1 ≡ D .white ++ drop (length (D .white)) a1
-  pub word-written : bw ≡ w ++ drop (length w) aw
-
-pub record Untouched (a0 a1 aw b0 b1 bw : List ℕ) : Type 0 where
-  pub s0-same : b0 ≡ a0
-  pub s1-same : b1 ≡ a1
-  pub word-same : bw ≡ aw
 
 abbrev pub Relabelled : List ℕ → List ℕ → ℕ → List ℕ → List ℕ → List ℕ → List ℕ → List ℕ → List ℕ → Relabelling → Type 0
 Relabelled s0 s1 root a0 a1 aw b0 b1 bw (relabelling.Length m) =

@@ -8,7 +8,7 @@
 --   ways h f            how many ways there are to go on from there
 --   count n             how many words spell a diagram of n edges
 --   Sorted ws           each word of ws comes before all that follow it
--- That the listing holds exactly the words of size n, each once, in dictionary order, is `Listed` in the theorems of crate demands.
+-- That the listing holds exactly the words of size n, each once, in dictionary order, is a theorem: `Listing` in crate demands.
 use Prim.Native.Nat.{ℕ, zero, suc, _+_, _*_}
 use mathlib.Core.List.{List, [], _∷_, _++_}
 use lib.ListN.{length}

@@ -10,7 +10,9 @@ use lib.Dec.{eqb, leb}
 use Rattle.lists.specs.Ranges.{Edge}
 use Rattle.lists.proofs.Tests.{same?, lt?, eqb-eq, eqb-true, le-true, leb-true}
 use Rattle.lists.proofs.Ranges.{every-true, true-every}
-use Rattle.cycles.specs.Cycles.{Perm, after, Same, seek, least, cycles, period, fixes}
+use Rattle.diagrams.specs.Diagram.{Maps}
+use Rattle.diagrams.proofs.Diagrams.{black-one-one, white-one-one}
+use Rattle.cycles.specs.Cycles.{Perm, after, Same, seek, least, cycles, period, fixes, around}
 use Rattle.cycles.proofs.Tallies.{tally-le, tally-most, tally-all}
 use Rattle.cycles.proofs.Searches.{First, seek-first}
 
@@ -187,3 +189,12 @@ module _ {n : ℕ} {φ : ℕ → ℕ} (p : Perm n φ) where
     where
       below : (y : ℕ) → Same φ (lowest φ x n) y → lowest φ x n ≤ y
       below y s = let r = same-after x e y (same-trans φ x (lowest φ x n) y (lowest-same φ x n) s) in rw (r .2) at (lowest-below φ x n (r .0) (r .1))
+
+-- ---- a diagram's permutation
+
+-- i to s0(s1(i)) is a permutation of a diagram's edges
+pub around-perm : {n : ℕ} {f g : ℕ → ℕ} → Maps n f g → Perm n (around f g)
+around-perm {g} m = record {
+  into = λ x e. m .black-in (g x) (m .white-in x e);
+  one-one = λ x y i j q. white-one-one m x y i j (black-one-one m (g x) (g y) (m .white-in x i) (m .white-in y j) q);
+}

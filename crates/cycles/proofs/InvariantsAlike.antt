@@ -4,17 +4,10 @@ use Prim.Native.Nat.{ℕ, _≤_}
 use native.Mathlib.Omega.{arith}
 use Rattle.diagrams.specs.Diagram.{Maps}
 use Rattle.diagrams.specs.Isomorphism.{Isomorphism, Isomorphic, RootIsomorphic}
-use Rattle.diagrams.proofs.Diagrams.{black-one-one, white-one-one}
 use Rattle.diagrams.proofs.Isomorphisms.{isomorphism-sym, maps-carried, root-isomorphic-isomorphic}
-use Rattle.cycles.specs.Cycles.{Perm, around, e2, e3, c, t, level}
+use Rattle.cycles.specs.Cycles.{around, e2, e3, c, t, level}
+use Rattle.cycles.proofs.Cycles.{around-perm}
 use Rattle.cycles.proofs.Carried.{Carried, fixes-carried, cycles-carried, longest-carried}
-
--- i to s0(s1(i)) is a permutation of a diagram's edges
-pub around-perm : {n : ℕ} {f g : ℕ → ℕ} → Maps n f g → Perm n (around f g)
-around-perm {g} m = record {
-  into = λ x e. m .black-in (g x) (m .white-in x e);
-  one-one = λ x y i j q. white-one-one m x y i j (black-one-one m (g x) (g y) (m .white-in x i) (m .white-in y j) q);
-}
 
 pub record SameInvariants (n : ℕ) (f g : ℕ → ℕ) (n′ : ℕ) (f′ g′ : ℕ → ℕ) : Type 0 where
   pub e2-same : e2 n f g ≡ e2 n′ f′ g′

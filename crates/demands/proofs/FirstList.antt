@@ -75,7 +75,7 @@ module _ (n : ℕ) (N : Edge 50 n) where
       ∙ at-wordOf n q f)
 
 -- a rooted diagram of size n is at exactly one position
-placed-once : (n : ℕ) (s0 s1 : List ℕ) (root : ℕ) → Accepts s0 s1 root → length s0 ≡ n → n ≤ 1024
+pub placed-once : (n : ℕ) (s0 s1 : List ℕ) (root : ℕ) → Accepts s0 s1 root → length s0 ≡ n → n ≤ 1024
     → Edge (count n) (position n (wordOf s0 s1 root)) × IsAt n s0 s1 root (position n (wordOf s0 s1 root)) × ((q : ℕ) → Edge (count n) q → IsAt n s0 s1 root q → q ≡ position n (wordOf s0 s1 root))
 placed-once n s0 s1 root A l h = rw (← l) (position-counted s0 s1 root A, position-alike s0 s1 root A, λ q e i. position-only s0 s1 root A q e (rw l h) i)
 

@@ -1,4 +1,5 @@
--- Laws of check's answer: what it accepts are the rooted diagrams of size 1 to 1,024, and each lent diagram has one answer only.
+-- Laws of check's answer: what it accepts are the rooted diagrams of size 1 to 1,024; refusal k is answered exactly if the k-th
+-- condition fails and none before it (refuses, refused-at); and each lent diagram has one answer only.
 use mathlib.Core.Path.{_≡_, refl, ap}
 use mathlib.Core.Logic.{_≢_, _⊎_, inl, inr, _↔_}
 use mathlib.Core.List.{List, [], _∷_}

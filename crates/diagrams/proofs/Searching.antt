@@ -42,10 +42,10 @@ apart-last x (y ∷ l) a n = (λ h. ⊎-elim (a .0) (λ e. n (inl (sym e))) (las
 
 -- ---- an edge on the list is there once
 
-pub joined-there : (x : ℕ) (l : List ℕ) → Has x l → joined x l ≡ l
+joined-there : (x : ℕ) (l : List ℕ) → Has x l → joined x l ≡ l
 joined-there x l h = rw (has-true x l h)
 
-pub joined-new : (x : ℕ) (l : List ℕ) → ¬ Has x l → joined x l ≡ l ++ (x ∷ [])
+joined-new : (x : ℕ) (l : List ℕ) → ¬ Has x l → joined x l ≡ l ++ (x ∷ [])
 joined-new x l n = rw (has-false x l n)
 
 room : (n x : ℕ) (l : List ℕ) → Apart l → ((y : ℕ) → Has y l → Edge n y) → Edge n x → ¬ Has x l → length l < n
@@ -56,7 +56,7 @@ room n x l a k e m = rw length-down at (pigeons (x ∷ l) (down n) (m, a) inside
     inside y (inr h) = has-down n y (k y h)
 
 module _ {marks list : List ℕ} {count : ℕ} (s : Search marks list count) where
-  pub marked-there : (x : ℕ) → at marks x ≡ 1 → Has x (take count list)
+  marked-there : (x : ℕ) → at marks x ≡ 1 → Has x (take count list)
   marked-there x e = go (has? x (take count list))
     where
       go : Has x (take count list) ⊎ (¬ Has x (take count list)) → Has x (take count list)
@@ -152,7 +152,7 @@ module _ (f g : ℕ → ℕ) where
       only x (inr h) = absurd h
 
   module _ {l : List ℕ} {done : ℕ} (F : Found f g l done) where
-    pub found-more : (k : ℕ) → done < length l → k ≡ getD l done 0 → Found f g (joined (g k) (joined (f k) l)) (done + 1)
+    found-more : (k : ℕ) → done < length l → k ≡ getD l done 0 → Found f g (joined (g k) (joined (f k) l)) (done + 1)
     found-more k h e = record {
       first = keeps 1 (F .first);
       sound = joined-sound (Reached f g 1) (g k) (joined (f k) l) (white there) (joined-sound (Reached f g 1) (f k) l (black there) (F .sound));
@@ -174,7 +174,7 @@ module _ (f g : ℕ → ℕ) where
         near x (inr q) = rw q (joined-keeps (g k) (f k) (joined (f k) l) (joined-has (f k) l), joined-has (g k) (joined (f k) l))
 
     -- once every edge of the list is visited, it has all that are reached
-    pub found-all : length l ≤ done → {x : ℕ} → Reached f g 1 x → Has x l
+    found-all : length l ≤ done → {x : ℕ} → Reached f g 1 x → Has x l
     found-all h here = F .first
     found-all h (black {x = y} p) = F .closed y (rw (take-all done l h) (found-all h p)) .0
     found-all h (white {x = y} p) = F .closed y (rw (take-all done l h) (found-all h p)) .1

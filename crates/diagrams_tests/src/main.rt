@@ -63,11 +63,14 @@ fn held(what: &[u8], s0: &[u16], s1: &[u16], root: u64) {
 }
 
 // A diagram of every size from 1 to 9.
-fn sizes() {
+fn sizes_to_4() {
     case(b"size 1", &[1], &[1], 1);
     case(b"size 2", &[1, 2], &[2, 1], 2);
     case(b"size 3", &[2, 3, 1], &[2, 1, 3], 1);
     case(b"size 4", &[1, 3, 4, 2], &[2, 1, 3, 4], 3);
+}
+
+fn sizes_to_9() {
     case(b"size 5", &[1, 3, 4, 2, 5], &[2, 1, 5, 4, 3], 5);
     case(b"size 6", &[2, 3, 1, 5, 6, 4], &[5, 4, 3, 2, 1, 6], 1);
     case(b"size 7", &[1, 3, 4, 2, 6, 7, 5], &[2, 1, 7, 5, 4, 6, 3], 4);
@@ -86,11 +89,14 @@ fn sizes() {
 }
 
 // A case for each refusal, and for each way to go wrong under it.
-fn refusals() {
+fn lengths() {
     case(b"no edge", &[], &[], 1);
     case(b"white list too long", &[1, 2], &[2, 1, 3], 1);
     case(b"white list too short", &[1, 2], &[2], 1);
     case(b"white list empty", &[1], &[], 1);
+}
+
+fn roots() {
     case(b"root 0", &[1, 2], &[2, 1], 0);
     case(b"root n + 1", &[1, 2], &[2, 1], 3);
     case(
@@ -100,12 +106,21 @@ fn refusals() {
         65537,
     );
     case(b"largest root", &[1, 2], &[2, 1], 18446744073709551615);
+}
+
+fn black_entries() {
     case(b"black entry 0", &[2, 3, 0], &[2, 1, 3], 1);
     case(b"black entry n + 1", &[2, 3, 4], &[2, 1, 3], 1);
     case(b"black entry 65535", &[65535, 3, 1], &[2, 1, 3], 1);
+}
+
+fn white_entries() {
     case(b"white entry 0", &[2, 3, 1], &[2, 0, 3], 1);
     case(b"white entry n + 1", &[2, 3, 1], &[2, 1, 4], 1);
     case(b"white entry 65535", &[2, 3, 1], &[65535, 1, 3], 1);
+}
+
+fn rounds() {
     case(b"black list swaps two edges", &[2, 1], &[2, 1], 1);
     case(
         b"black list goes round four edges",
@@ -121,6 +136,9 @@ fn refusals() {
         1,
     );
     case(b"white list not one-to-one", &[2, 3, 1], &[1, 2, 2], 1);
+}
+
+fn apart() {
     case(b"two edges apart", &[1, 2], &[1, 2], 1);
     case(
         b"two triples apart",
@@ -137,7 +155,7 @@ fn refusals() {
 }
 
 // Where two conditions hold, the first is answered.
-fn order() {
+fn length_first() {
     case(b"no edge, lengths differ: 1 before 2", &[], &[1], 1);
     case(b"no edge, root outside: 1 before 3", &[], &[], 0);
     case(
@@ -152,6 +170,9 @@ fn order() {
         &[1],
         1,
     );
+}
+
+fn root_first() {
     case(
         b"root outside, black entry outside: 3 before 4",
         &[0],
@@ -164,6 +185,9 @@ fn order() {
         &[1, 2],
         0,
     );
+}
+
+fn entry_first() {
     case(b"both entries outside: 4 before 5", &[1, 3], &[0, 1], 1);
     case(
         b"black entry outside, another moved: 4 before 6",
@@ -183,6 +207,9 @@ fn order() {
         &[2, 3, 0],
         1,
     );
+}
+
+fn round_first() {
     case(b"both move: 6 before 7", &[2, 1, 3], &[2, 3, 1], 1);
     case(
         b"black moves, not connected: 6 before 8",
@@ -276,28 +303,27 @@ fn limits(s0: &mut [u16], s1: &mut [u16]) {
     );
 }
 
-fn reached() {
-    let mut m = [1u8; 1024];
+// Marks: none, one, some seven to nine, and 1,024.
+fn one_mark() {
     marks(b"no mark", &[]);
     marks(b"a mark 1", &[1]);
     marks(b"a mark 0", &[0]);
     marks(b"a mark 2", &[2]);
     marks(b"a mark 255", &[255]);
-    marks(b"7 marks 1", &m[..7]);
-    marks(b"8 marks 1", &m[..8]);
-    marks(b"9 marks 1", &m[..9]);
+}
+
+fn some_marks() {
+    marks(b"7 marks 1", &[1, 1, 1, 1, 1, 1, 1]);
+    marks(b"8 marks 1", &[1, 1, 1, 1, 1, 1, 1, 1]);
+    marks(b"9 marks 1", &[1, 1, 1, 1, 1, 1, 1, 1, 1]);
+    marks(b"7 marks, the last 0", &[1, 1, 1, 1, 1, 1, 0]);
+    marks(b"8 marks, the first 3", &[3, 1, 1, 1, 1, 1, 1, 1]);
+    marks(b"9 marks, the last 0", &[1, 1, 1, 1, 1, 1, 1, 1, 0]);
+}
+
+fn many_marks() {
+    let mut m = [1u8; 1024];
     marks(b"1024 marks 1", &m);
-    m[8] = 0;
-    marks(b"8 marks 1, before a mark 0", &m[..8]);
-    marks(b"8 marks 1, then a mark 0", &m[..9]);
-    m[8] = 1;
-    m[6] = 0;
-    marks(b"7 marks, the last 0", &m[..7]);
-    marks(b"8 marks, the last but one 0", &m[..8]);
-    m[6] = 1;
-    m[0] = 3;
-    marks(b"8 marks, the first 3", &m[..8]);
-    m[0] = 1;
     m[1023] = 0;
     marks(b"1024 marks, the last 0", &m);
     m[1023] = 2;
@@ -313,10 +339,21 @@ fn constructors() {
 fn main() {
     let mut s0 = [0u16; 1025];
     let mut s1 = [0u16; 1025];
-    sizes();
-    refusals();
-    order();
+    sizes_to_4();
+    sizes_to_9();
+    lengths();
+    roots();
+    black_entries();
+    white_entries();
+    rounds();
+    apart();
+    length_first();
+    root_first();
+    entry_first();
+    round_first();
     limits(&mut s0, &mut s1);
-    reached();
+    one_mark();
+    some_marks();
+    many_marks();
     constructors();
 }

@@ -7,8 +7,8 @@ use mathlib.Core.List.{List}
 use Prim.Native.Nat.{ℕ, zero, suc, _+_, _≤_, _<_, max}
 use native.Mathlib.Omega.{arith}
 use native.Mathlib.Numerals.{add-one}
-use lib.ListN.{length, getD, replicate, length-replicate, getD-replicate}
-use Rattle.lists.specs.Lists.{pick, at}
+use lib.ListN.{getD, replicate, length-replicate, getD-replicate}
+use Rattle.lists.specs.Lists.{at}
 use Rattle.lists.specs.Ranges.{Edge, tally, top}
 use Rattle.lists.proofs.Tests.{same?, lt?}
 use Rattle.cycles.specs.Cycles.{Perm, Same, least, cycles, period, longest}
@@ -36,7 +36,7 @@ count-start n φ l = record { far = omega arith; counted = refl; largest = refl;
     unmarked zero e q = omega arith
     unmarked (suc x) e q = let z = sym (getD-replicate {A = ℕ} 1024 x 0 0 (omega arith)) ∙ q in omega arith
 
-module _ {n : ℕ} {φ : ℕ → ℕ} (p : Perm n φ) {seen : List ℕ} {count most i : ℕ} (k : Counted n φ seen count most i) where
+module _ {n : ℕ} {φ : ℕ → ℕ} {seen : List ℕ} {count most i : ℕ} (k : Counted n φ seen count most i) where
   pub count-few : count ≤ i
   count-few = let h = k .counted in let m = tally-most i (least n φ) in omega arith
 
@@ -44,7 +44,7 @@ module _ {n : ℕ} {φ : ℕ → ℕ} (p : Perm n φ) {seen : List ℕ} {count m
   unfolding cycles longest
   count-end l = let h = k .far in let e : i ≡ n = omega arith in (k .counted ∙ ap (λ m. tally m (least n φ)) e, k .largest ∙ ap (λ m. top m (period n φ)) e)
 
-  module _ (more : i < n) where
+  module _ (p : Perm n φ) (more : i < n) where
     met-more : (x : ℕ) → Met φ i x → Met φ (suc i) x
     met-more x r = let h = r .1 in (r .0, omega arith, r .2)
 

@@ -1,9 +1,9 @@
 -- The steps of a walk round one cycle. On the way, k edges of the cycle are marked and the walk stands at the next one, x;
 -- it comes back to its start after as many steps as the period says, and then the whole cycle is marked.
 use mathlib.Core.Path.{_≡_, refl, sym, ap, _∙_}
-use mathlib.Core.Logic.{_≢_, _⊎_, inl, inr, _↔_}
+use mathlib.Core.Logic.{_≢_, _⊎_, inl, inr}
 use mathlib.Core.List.{List}
-use Prim.Native.Nat.{ℕ, zero, suc, _+_, _-_, _≤_, _<_}
+use Prim.Native.Nat.{ℕ, suc, _+_, _-_, _≤_, _<_}
 use native.Mathlib.Omega.{arith}
 use native.Mathlib.Numerals.{add-one}
 use lib.ListN.{length, getD, set}
@@ -15,7 +15,6 @@ use Rattle.diagrams.specs.Search.{Mapped}
 use Rattle.diagrams.proofs.Entries.{at-place, put-place}
 use Rattle.cycles.specs.Cycles.{Perm, around, after, Same, period}
 use Rattle.cycles.proofs.Cycles.{after-in, Period, period-is, period-most, after-period}
-use Rattle.cycles.proofs.InvariantsAlike.{around-perm}
 use Rattle.invariants.specs.Marks.{Marked, Walked}
 
 -- ---- one step along a cycle

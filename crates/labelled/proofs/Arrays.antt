@@ -1,11 +1,10 @@
 -- Laws of the label arrays: giving the next label, taking the last one back, and seeing a list through the labels.
-use mathlib.Core.Path.{_≡_, refl, sym, ap, _∙_}
+use mathlib.Core.Path.{_≡_, refl, sym, _∙_}
 use mathlib.Core.Logic.{_≢_, _⊎_, inl, inr}
 use mathlib.Core.List.{List, [], _∷_, _++_, append-assoc}
 use Prim.Native.Nat.{ℕ, zero, suc, _+_, _-_, _≤_, _<_}
 use native.Mathlib.Omega.{arith}
 use native.Mathlib.Numerals.{add-one}
-use lib.Dec.{eqb}
 use lib.ListN.{length, getD, set, drop, replicate, length-set, length-append, length-drop, length-replicate}
 use lib.Seq.{getD-set-same, getD-set-other, drop-cons, set-at}
 use Rattle.lists.specs.Lists.{at, listed, Has, Apart}
@@ -66,13 +65,16 @@ holds-give la od c x o hc hx h = record {
 take-last : (la od : List ℕ) (c : ℕ) (o : List ℕ) → c ≢ 0 → Holds la od c o → Apart o → ((x : ℕ) → Has x o → x < 1025) → c ≤ 1024
     → (getD od c 0 < 1025) × HoldsSome (set la (getD od c 0) 0) od (c - 1)
 take-last la od c [] n h a s r = absurd (n (h .given-is))
-take-last la od c (y ∷ o) n h a s r = rw last (s y (inl refl), record {
-  edges = o;
-  holds = record { labels-long = simp length-set (h .labels-long); order-long = h .order-long; given-is = let e = h .given-is in omega arith; label-of = λ x. label x (same? x y); edge-of = edge-at };
-  apart = a .1;
-  small = λ x i. s x (inr i);
-  room = omega arith;
-})
+take-last la od c (y ∷ o) n h a s r = rw last (
+  s y (inl refl),
+  record {
+    edges = o;
+    holds = record { labels-long = simp length-set (h .labels-long); order-long = h .order-long; given-is = let e = h .given-is in omega arith; label-of = λ x. label x (same? x y); edge-of = edge-at };
+    apart = a .1;
+    small = λ x i. s x (inr i);
+    room = omega arith;
+  },
+)
   where
     last : getD od c 0 ≡ y
     last = rw (h .given-is) (h .edge-of (suc (length o)) (omega arith) ∙ rw (eqb-same (suc (length o))))

@@ -2,7 +2,7 @@
 // of each label) and the pending ring, which holds edges. Nothing of the size limit is cleared or copied for one labelling.
 use lists::wide;
 ghost use mathlib.Core.Path.{_≡_};
-ghost use mathlib.Core.List.{List, [], _∷_};
+ghost use mathlib.Core.List.{List, _∷_};
 ghost use Prim.Native.Nat.{ℕ, suc, _+_, _<_, _≤_};
 ghost use lib.ListN.{length};
 ghost use Rattle.lists.specs.Lists.{at, Has, find, cut};
@@ -52,7 +52,16 @@ fn join(next: &mut [u16; 1025], prev: &mut [u16; 1025], p: u16) -> u16
 }
 
 // F: the edges p, q and s round a black vertex get the next labels, and the last two are pushed.
-fn fork(labels: &mut [u16; 1025], order: &mut [u16; 1025], next: &mut [u16; 1025], prev: &mut [u16; 1025], given: u16, p: u16, q: u16, s: u16) -> u16
+fn fork(
+    labels: &mut [u16; 1025],
+    order: &mut [u16; 1025],
+    next: &mut [u16; 1025],
+    prev: &mut [u16; 1025],
+    given: u16,
+    p: u16,
+    q: u16,
+    s: u16,
+) -> u16
     requires { ⌜ (given + 3 ≤ 1024) × Edge 1024 p × Edge 1024 q × Edge 1024 s ⌝ }
     requires { ⌜ ((st : List ℕ) × Ring (now next) (now prev) st × (¬ Has q st) × (¬ Has s (q ∷ st))) ⌝ }
     ensures held { λ r. ⌜ ((o : List ℕ) → Holds (now (labels .entry)) (now (order .entry)) given o → Holds (now (labels .exit)) (now (order .exit)) r (s ∷ q ∷ p ∷ o)) ⌝ }
@@ -67,7 +76,14 @@ fn fork(labels: &mut [u16; 1025], order: &mut [u16; 1025], next: &mut [u16; 1025
 }
 
 // The first event, from the root: U or T.
-pub fn begin(s0: &[u16], labels: &mut [u16; 1025], order: &mut [u16; 1025], next: &mut [u16; 1025], prev: &mut [u16; 1025], root: u16) -> Turn
+pub fn begin(
+    s0: &[u16],
+    labels: &mut [u16; 1025],
+    order: &mut [u16; 1025],
+    next: &mut [u16; 1025],
+    prev: &mut [u16; 1025],
+    root: u16,
+) -> Turn
     requires { ⌜ ((s1 : List ℕ) × Accepts (now s0) s1 root) ⌝ }
     requires { ⌜ Ready (now labels) (now order) (now next) (now prev) ⌝ }
     ensures { λ e. ⌜ ((s1 : List ℕ) → Accepts (now (s0 .entry)) s1 root
@@ -85,7 +101,15 @@ pub fn begin(s0: &[u16], labels: &mut [u16; 1025], order: &mut [u16; 1025], next
 }
 
 // The event of the edge on top of the stack: W, Jd, B or F.
-pub fn event(s0: &[u16], s1: &[u16], labels: &mut [u16; 1025], order: &mut [u16; 1025], next: &mut [u16; 1025], prev: &mut [u16; 1025], given: u16) -> Turn
+pub fn event(
+    s0: &[u16],
+    s1: &[u16],
+    labels: &mut [u16; 1025],
+    order: &mut [u16; 1025],
+    next: &mut [u16; 1025],
+    prev: &mut [u16; 1025],
+    given: u16,
+) -> Turn
     requires { ⌜ ((o : List ℕ) × (k : ℕ) × (r : List ℕ) × Underway (now s0) (now s1) (now labels) (now order) (now next) (now prev) given o (k ∷ r)) ⌝ }
     ensures { λ e. ⌜ ((o : List ℕ) (k : ℕ) (r : List ℕ) → Underway (now (s0 .entry)) (now (s1 .entry)) (now (labels .entry)) (now (order .entry)) (now (next .entry)) (now (prev .entry)) given o (k ∷ r)
         → Did (now (s0 .entry)) (now (s1 .entry)) (now (labels .exit)) (now (order .exit)) (now (next .exit)) (now (prev .exit)) (move (at (now (s0 .entry))) (at (now (s1 .entry))) o k r) e) ⌝ }

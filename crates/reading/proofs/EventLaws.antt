@@ -1,4 +1,5 @@
--- What each event does to the state that the arrays hold, and when it is refused: one law for each way out of the code of an event.
+-- What each event does to the state that the arrays hold, and when it is refused; the same for the first item and for the end.
+-- One law for each way out of the code.
 use mathlib.Core.Path.{_≡_, refl, sym, ap, _∙_}
 use mathlib.Core.List.{List, [], _∷_, _++_}
 use Prim.Native.Nat.{ℕ, zero, suc, _+_, _-_, _≤_, _<_}
@@ -7,7 +8,7 @@ use native.Mathlib.Numerals.{add-one}
 use native.Mathlib.Omega.{arith}
 use lib.Dec.{leb}
 use lib.ListN.{length, getD, set, take, drop, length-set, length-drop, drop-of-length-le}
-use lib.Seq.{drop-cons, length-take-le, take-all}
+use lib.Seq.{drop-cons, length-take-le, take-all, take-suc-set}
 use Rattle.lists.specs.Lists.{Has, All, pick, find, cut, put}
 use Rattle.lists.specs.Ranges.{Edge}
 use Rattle.lists.proofs.Tests.{le-true, le-false, lt-true, lt-false}
@@ -18,7 +19,7 @@ use Rattle.reading.specs.declared.Step.the-variants.{Next}
 use Rattle.reading.specs.declared.Reading.the-variants.{Size}
 use Rattle.reading.specs.Read.{Read, refused, built, items, opening, read, room, answer, Gave}
 use Rattle.reading.specs.State.{State, alone, triple, onward, Holds, Stands}
-use Rattle.reading.proofs.Stores.{take-1, take-3, take-put}
+use Rattle.reading.proofs.Stores.{take-3, take-put}
 
 two : (u : ℕ) → u + 2 ≡ suc (suc u)
 two u = omega arith
@@ -104,10 +105,10 @@ module _ (nx pv x0 x1 : List ℕ) (u h : ℕ) (t : State) (o : Holds nx pv x0 x1
       high = o .high;
       black-long = simp length-set (o .black-long);
       white-long = rw q (simp length-put (o .white-long));
-      blacks = rw (size, o .blacks, p, add-one u) (sym (take-1 x0 u (suc u) (omega (arith, o .black-long))));
+      blacks = rw (size, o .blacks, p, add-one u) (sym (take-suc-set x0 u (suc u) (omega (arith, o .black-long))));
       whites = rw (size, o .whites, q, add-one u)
           (ap (λ (z : List ℕ). z ++ (k ∷ [])) (sym (take-put x1 u k (suc u) (e .1)))
-          ∙ sym (take-1 (put x1 k (suc u)) u k (rw length-put (omega (arith, o .white-long)))));
+          ∙ sym (take-suc-set (put x1 k (suc u)) u k (rw length-put (omega (arith, o .white-long)))));
     },
     rw (le-true (suc (length (t .black))) 1024 (omega (arith, size))),
   )
@@ -181,11 +182,11 @@ module _ (nx pv x0 x1 : List ℕ) (u h : ℕ) (t : State) (o : Holds nx pv x0 x1
   end-built g = rw (nil (t .stack) (sym (o .high) ∙ g))
 
   module _ (g : h ≡ 0) (a b : List ℕ) where
-    pub room-refused : length a < u → room (onward [] t) (length a) (length b) ≡ refused 9
-    room-refused l = rw (end-built g, le-false (length (t .black)) (length a) (omega (arith, size)))
+    pub room-refused-black : length a < u → room (onward [] t) (length a) (length b) ≡ refused 9
+    room-refused-black l = rw (end-built g, le-false (length (t .black)) (length a) (omega (arith, size)))
 
-    pub room-refused-2 : u ≤ length a → length b < u → room (onward [] t) (length a) (length b) ≡ refused 9
-    room-refused-2 k l = rw (end-built g, le-true (length (t .black)) (length a) (omega (arith, size)), le-false (length (t .black)) (length b) (omega (arith, size)))
+    pub room-refused-white : u ≤ length a → length b < u → room (onward [] t) (length a) (length b) ≡ refused 9
+    room-refused-white k l = rw (end-built g, le-true (length (t .black)) (length a) (omega (arith, size)), le-false (length (t .black)) (length b) (omega (arith, size)))
 
     pub room-gave : (n : ℕ) (c d : List ℕ) → n ≡ u → u ≤ length a → u ≤ length b
         → c ≡ pick (leb (length (take n x0)) (length a)) (take n x0 ++ drop (length (take n x0)) a) a
@@ -210,8 +211,8 @@ module _ (nx pv x0 x1 : List ℕ) (e : length x0 ≡ 1024) (f : length x1 ≡ 10
     high = refl;
     black-long = simp length-set e;
     white-long = simp length-set f;
-    blacks = sym (take-1 x0 0 1 (omega arith));
-    whites = sym (take-1 x1 0 1 (omega arith));
+    blacks = sym (take-suc-set x0 0 1 (omega arith));
+    whites = sym (take-suc-set x1 0 1 (omega arith));
   }
 
   pub triple-first : Ring nx pv (3 ∷ 2 ∷ 1 ∷ [])

@@ -7,9 +7,6 @@ use lib.ListN.{length, set, take, length-set}
 use lib.Seq.{take-suc-set, take-set-lt}
 use Rattle.lists.specs.Lists.{put}
 
-pub take-1 : (x : List ℕ) (u a : ℕ) → suc u ≤ length x → take (suc u) (set x u a) ≡ take u x ++ (a ∷ [])
-take-1 x u a h = take-suc-set x u a h
-
 pub take-3 : (x : List ℕ) (u a b c : ℕ) → suc (suc (suc u)) ≤ length x
     → take (suc (suc (suc u))) (set (set (set x u a) (suc u) b) (suc (suc u)) c) ≡ take u x ++ (a ∷ b ∷ c ∷ [])
 take-3 x u a b c h =

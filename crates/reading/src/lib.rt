@@ -13,6 +13,7 @@ ghost use Rattle.pending.specs.Ring.{Ring};
 ghost use Rattle.reading.specs.Read.{items, opening, room, answer, Gave};
 ghost use Rattle.reading.specs.State.{State, alone, triple, onward, Holds, Stands};
 
+// The size of the diagram that was written, or the number of the refusal.
 pub enum Reading {
     Size(u16),
     Refused(u16),
@@ -24,6 +25,7 @@ enum Step {
     Refused(u16),
 }
 
+// The largest size, and so the largest label.
 const MAX_SIZE: u16 = 1024;
 
 // Makes a and b each other's white partner.

@@ -99,3 +99,19 @@ leads-less (suc h) f (suc (suc (suc d))) e = go (ltb d h) e
     go : (b : Bool) → ends (pick b (level (pre h) f) stuck .height) (pick b (level (pre h) f) stuck .free) ≡ true → pick b (level (pre h) f) stuck .height + pick b (level (pre h) f) stuck .free < suc h + f
     go true e = let i = pre-le h in omega arith
     go false e = absurd (true≢false (sym e))
+
+-- no item leads above a bound on both
+pub after-small : (m h f x : ℕ) → 1 ≤ m → h + f ≤ m → after h f x .height + after h f x .free ≤ m
+after-small m zero f x l s = l
+after-small m (suc h) f zero l s = omega arith
+after-small m (suc h) zero (suc zero) l s = l
+after-small m (suc h) (suc zero) (suc zero) l s = l
+after-small m (suc h) (suc (suc zero)) (suc zero) l s = l
+after-small m (suc h) (suc (suc (suc f))) (suc zero) l s = omega arith
+after-small m (suc h) zero (suc (suc zero)) l s = l
+after-small m (suc h) (suc f) (suc (suc zero)) l s = omega arith
+after-small m (suc h) f (suc (suc (suc d))) l s = go (ltb d h)
+  where
+    go : (b : Bool) → pick b (level (pre h) f) stuck .height + pick b (level (pre h) f) stuck .free ≤ m
+    go true = let i = pre-le h in omega arith
+    go false = l

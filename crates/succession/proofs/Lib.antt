@@ -4,3 +4,7 @@ pub mod Endings
 pub mod Follows
 pub mod Places
 pub mod Cases
+pub mod Backwards
+pub mod Forwards
+pub mod Padding
+pub mod Branches

@@ -6,10 +6,10 @@ ghost use mathlib.Core.Logic.{_⊎_};
 ghost use mathlib.Core.Bool.{true, false};
 ghost use mathlib.Core.List.{List, [], _∷_, _++_};
 ghost use Prim.Native.Nat.{ℕ, _+_, _≤_};
-ghost use lib.ListN.{length};
+ghost use lib.ListN.{length, take};
 ghost use Rattle.lists.specs.Ranges.{Edge};
 ghost use Rattle.words.specs.Shape.{Fits, Word};
-ghost use Rattle.succession.specs.Succession.{level, stuck, after, start, ends, leads, jump, better, above, lead, ending, following, padded, held};
+ghost use Rattle.succession.specs.Succession.{level, stuck, after, start, ends, leads, jump, better, above, lead, ending, first, following, padded, held};
 ghost use Rattle.succession.specs.Reading.{Read, Raises};
 
 // How many labels are pending, and how many are still free.
@@ -179,7 +179,7 @@ fn lead(height: u16, free: u16) -> u16
 }
 
 // The level at which an item was read, from the level after it.
-fn before(height: u16, free: u16, item: u16) -> Level
+fn unread(height: u16, free: u16, item: u16) -> Level
     requires { ⌜ (height + free ≤ 50) × ((h f : ℕ) × Read h f item height free) ⌝ }
     ensures { λ r. ⌜ ((h f : ℕ) → Read h f item height free → r ≡ level h f) ⌝ }
 {
@@ -249,7 +249,7 @@ fn last_raise(items: &[u16]) -> Raise
     let mut i = items.len();
     while 0 < i {
         let x = items[i - 1];
-        let l = before(h, f, x);
+        let l = unread(h, f, x);
         let e = above(l.height, l.free, x);
         if 0 < e {
             let t = after(l.height, l.free, e);
@@ -291,15 +291,69 @@ fn end_word(items: &mut [u16; 51], at: usize, height: u16, free: u16) -> usize
     i
 }
 
-// The items of a beginning, an event, and the least way to end after it.
-fn grown(beginning: &[u16], event: u16, height: u16, free: u16) -> Held
-    requires { ⌜ (length (now beginning) + 1 + length (ending height free) ≤ 51) × (ends height free ≡ true) × (height + free ≤ 50) ⌝ }
-    ensures { λ r. ⌜ r ≡ held (now (beginning .entry) ++ (event ∷ ending height free)) ⌝ }
+// Writes an event after the first `at` items, and the least way to end after it.
+fn grow(items: &mut [u16; 51], at: usize, event: u16, height: u16, free: u16) -> usize
+    requires { ⌜ ((p : List ℕ) × (now items ≡ padded p) × (at ≡ length p) × (at + 1 + length (ending height free) ≤ 51) × (ends height free ≡ true) × (height + free ≤ 50)) ⌝ }
+    ensures { λ r. ⌜ ((p : List ℕ) → now (items .entry) ≡ padded p → at ≡ length p
+        → (now (items .exit) ≡ padded (p ++ (event ∷ ending height free))) × (r ≡ length (p ++ (event ∷ ending height free)))) ⌝ }
 {
-    let at = beginning.len();
-    let mut items = [0u16; 51];
-    fill(&mut items, beginning);
     items[at] = event;
-    let length = end_word(&mut items, at + 1, height, free);
+    end_word(items, at + 1, height, free)
+}
+
+// The least word of a size that begins with U, or with T.
+fn rooted(n: u16, root: u16) -> Held
+    requires { ⌜ (n ≤ 50) × (ends (start n root .height) (start n root .free) ≡ true) ⌝ }
+    ensures { λ r. ⌜ r ≡ held (root ∷ ending (start n root .height) (start n root .free)) ⌝ }
+{
+    let l = start(n, root);
+    let mut items = [0u16; 51];
+    let length = grow(&mut items, 0, root, l.height, l.free);
     Held { length, items }
+}
+
+// The word with an item raised, and the least way to end after that.
+fn raised(word: &[u16], place: usize, event: u16, height: u16, free: u16) -> Held
+    requires { ⌜ (place ≤ length (now word)) × (place + 1 + length (ending height free) ≤ 51) × (ends height free ≡ true) × (height + free ≤ 50) ⌝ }
+    ensures { λ r. ⌜ r ≡ held (take place (now (word .entry)) ++ (event ∷ ending height free)) ⌝ }
+{
+    let mut items = [0u16; 51];
+    fill(&mut items, &word[..place]);
+    let length = grow(&mut items, place, event, height, free);
+    Held { length, items }
+}
+
+// The first word of a size.
+fn first(n: u16) -> Held
+    requires { ⌜ Edge 50 n ⌝ }
+    ensures { λ r. ⌜ r ≡ held (first n) ⌝ }
+{
+    let u = start(n, 0);
+    if ends(u.height, u.free) {
+        return rooted(n, 0);
+    }
+    rooted(n, 1)
+}
+
+// The word that follows a word of n edges: the first after the empty list, and the empty list after the last.
+pub fn following(word: &[u16], n: u16) -> Held
+    requires { ⌜ Edge 50 n × ((now word ≡ []) ⊎ Word n (now word)) ⌝ }
+    ensures { λ r. ⌜ r ≡ held (following n (now (word .entry))) ⌝ }
+{
+    if word.len() == 0 {
+        return first(n);
+    }
+    let r = last_raise(&word[1..]);
+    if 0 < r.event {
+        return raised(word, r.place + 1, r.event, r.height, r.free);
+    }
+    if word[0] == 0 {
+        if 3 <= n {
+            return rooted(n, 1);
+        }
+    }
+    Held {
+        length: 0,
+        items: [0u16; 51],
+    }
 }

@@ -1,74 +1,58 @@
+-- `relabel_accepted` meets its contract: 9 where a list is short, otherwise what the whole labelling wrote.
 use borrow.Author.Needs.{needs}
-use mathlib.Core.Path.{_≡_, refl, _∙_}
+use mathlib.Core.Path.{refl}
 use mathlib.Core.Logic.{inl, inr}
 use native.Mathlib.Omega.{arith}
 use denote.Ref.{now}
-use Rattle.canonical.proofs.Characteristic.{not-short, held-white, relabel-written}
-use Rattle.labelled.proofs.Sofar.{labels-whole, labels-edges}
 use Rattle.labelled.proofs.Arrays.{zeros-ready}
+use Rattle.labelled.proofs.Sofar.{labels-edges}
+use Rattle.canonical.proofs.Characteristic.{not-short, held-white, relabel-written}
 use Rattle.canonical.proofs.relabel_accepted.Statement.{statement}
 use Rattle.canonical.proofs.relabel_accepted.Tie as tie
-use Rattle.canonical.proofs.relabel_accepted.Reads as reads
-use Rattle.canonical.proofs.relabel_accepted.Lts as lts
-use Rattle.labelled.proofs.writing.write_list.Reads as write-list-reads
-use Rattle.labelled.proofs.writing.write_word.Reads as write-word-reads
 
--- src/lib.rt:41:9
 returns : tie.Need-returns
 returns c = (inr (refl, c .before .before .before .before .before .before .pre, inl (c .if1 .taken)), record { s0-same = refl; s1-same = refl; word-same = refl })
 
--- src/lib.rt:44:9
 returns-2 : tie.Need-returns-2
 returns-2 c = (inr (refl, c .before .before .before .before .before .before .before .pre, inr (inl (c .if2 .taken))), record { s0-same = refl; s1-same = refl; word-same = refl })
 
--- src/lib.rt:47:9
 returns-3 : tie.Need-returns-3
 returns-3 c = (inr (refl, c .before .before .before .before .before .before .before .before .pre, inr (inr (omega arith))), record { s0-same = refl; s1-same = refl; word-same = refl })
 
--- src/lib.rt:53:79
 cast-write-word : tie.Need-cast-write-word
 cast-write-word c = search needs
 
--- src/lib.rt:53:9
 write-word-requires : tie.Need-write-word-requires
 write-word-requires c κs = (c .before .before .before .before .before .before .before .before .before .before .before .before .before .pre, (zeros-ready, c .before .before .before .before .before .if3 .left))
 
--- src/lib.rt:54:5
 write-list-requires : tie.Need-write-list-requires
 write-list-requires c κs = (
   (c .before .before .before .before .before .before .before .before .before .before .before .before .before .before .before .before .before .before .before .pre .size .1, c .before .before .before .before .before .before .before .before .before .before .before .before .before .if1 .left, c .before .before .before .before .before .before .before .before .before .before .before .before .before .before .before .before .before .before .before .pre .blacks),
   (_, c .before .before .before .before .before .write-word .ensures .held, labels-edges _ _ _ (c .before .before .before .before .before .before .before .before .before .before .before .before .before .before .before .before .before .before .before .pre)),
 )
 
--- src/lib.rt:55:5
 write-list-requires-2 : tie.Need-write-list-requires-2
 write-list-requires-2 c κs =
-    let a = c .before .before .before .before .before .before .before .before .before .before .before .before .before .before .before .before .before .before .before .before .before .before .before .before .before .pre in
-    (
+    let a = c .before .before .before .before .before .before .before .before .before .before .before .before .before .before .before .before .before .before .before .before .before .before .before .before .before .pre in (
       (rw (a .lengths) (a .size .1), rw (a .lengths) (c .before .before .before .before .before .before .before .before .before .before .before .before .before .before .before .before .before .before .if2 .left), rw (a .lengths) (a .whites)),
       (_, held-white _ _ _ _ _ _ _ (now (c .before .before .before .before .before .before .before .before .before .before .before .before .before .before .before .before .before .before .before .before .before .before .before .before .before .args .t0)) (now (c .before .before .before .before .before .before .before .before .before .before .before .before .before .before .before .before .before .before .before .before .before .before .before .before .before .args .t1)) _ (now (c .before .before .before .before .before .before .before .before .before .before .before .before .before .before .before .before .before .before .before .before .before .before .before .before .before .args .t0)) (now (c .before .before .before .before .before .before .before .before .before .before .before .before .before .before .before .before .before .before .before .before .before .before .before .before .before .args .t1)) _ _ a (c .before .before .before .before .before .before .before .before .before .before .before .write-word .ensures), rw (a .lengths) (labels-edges _ _ _ a)),
     )
 
--- src/lib.rt:56:25
 cast-t19 : tie.Need-cast-t19
 cast-t19 c =
     let i = c .before .before .before .before .before .before .before .before .before .before .before .before .before .before .write-word .ensures .few in
     let j = c .before .before .before .before .before .before .before .before .before .before .before .before .before .before .before .before .before .before .before .before .before .before .before .before .before .before .before .before .pre .size in
     omega arith
 
--- src/lib.rt:35:1
 same-length : tie.Need-same-length
 same-length c = search needs
 
--- src/lib.rt:35:1
 same-length-2 : tie.Need-same-length-2
 same-length-2 c = search needs
 
--- src/lib.rt:35:1
 same-length-3 : tie.Need-same-length-3
 same-length-3 c = search needs
 
--- src/lib.rt:35:1
 returns-4 : tie.Need-returns-4
 returns-4 c =
     relabel-written _ _ _ _ _ _ _ _ _ _ _ _ _ _ (c .before .before .before .before .before .before .before .before .before .before .before .before .before .before .before .before .before .before .before .before .before .before .before .before .before .before .before .before .pre) (c .before .before .before .before .before .before .before .before .before .before .before .before .before .before .write-word .ensures)

@@ -1,17 +1,14 @@
+-- Count cycles: with the edges 1..i done, their cycles are marked and counted, and the longest of them is known.
 use native.Mathlib.Omega.{arith}
-use Prim.Native.Nat.{_-_, _≤_}
+use Prim.Native.Nat.{_-_}
 use borrow.Author.Needs.{needs}
 use lib.ListN.{length}
 use Rattle.lists.specs.Lists.{at}
 use Rattle.cycles.specs.Cycles.{Perm, around}
-use Rattle.cycles.proofs.InvariantsAlike.{around-perm}
+use Rattle.cycles.proofs.Cycles.{around-perm}
 use Rattle.invariants.proofs.Counts.{Counted, count-start, count-few, count-end, count-skip, count-new}
 use Rattle.invariants.proofs.count_cycles.Statement.{statement}
 use Rattle.invariants.proofs.count_cycles.Tie as tie
-use Rattle.invariants.proofs.count_cycles.Reads as reads
-use Rattle.invariants.proofs.count_cycles.Lts as lts
-use Rattle.invariants.proofs.larger.Reads as larger-reads
-use Rattle.invariants.proofs.walk.Reads as walk-reads
 
 abbrev Inv-loop : tie.InvT-loop
 Inv-loop s0 s1 seen₀ count₀ longest₀ i₀ seen count longest i = Counted (length s0) (around (at s0) (at s1)) seen count longest i
@@ -25,37 +22,30 @@ perm c = around-perm (c .pre .maps)
 loop-holds : tie.Need-loop-holds Inv-loop μ-loop
 loop-holds c = count-start _ _ (c .before .before .pre .size .1)
 
--- src/lib.rt:101:20
 array-read-mark : tie.Need-array-read-mark Inv-loop μ-loop
 array-read-mark c = search needs
 
--- src/lib.rt:102:9
 add-i : tie.Need-add-i Inv-loop μ-loop
 add-i c = search needs
 
--- src/lib.rt:104:17
 walk-requires : tie.Need-walk-requires Inv-loop μ-loop
 walk-requires c κs = (c .before .before .before .before .before .before .pre, (search needs, c .before .before .before .loop .inv .marks .long))
 
--- src/lib.rt:105:13
 add-count : tie.Need-add-count Inv-loop μ-loop
-add-count c = let few = count-few (perm (c .before .before .before .before .before .before .before)) (c .before .before .before .before .loop .inv) in omega (arith, c .before .before .before .loop-test .taken, c .before .before .before .before .before .before .before .pre .size)
+add-count c = let few = count-few (c .before .before .before .before .loop .inv) in omega (arith, c .before .before .before .loop-test .taken, c .before .before .before .before .before .before .before .pre .size)
 
--- src/lib.rt:106:13
 larger-requires : tie.Need-larger-requires Inv-loop μ-loop
 larger-requires c κs = search needs
 
--- src/lib.rt:100:5
 loop-less : tie.Need-loop-less Inv-loop μ-loop
 loop-less c = search needs
 
--- src/lib.rt:100:5
 loop-again : tie.Need-loop-again Inv-loop μ-loop
 loop-again c =
     rw (c .larger .ensures)
     (count-new
-    (perm (c .before .before .before .before .before .before .before .before))
     (c .before .before .before .before .before .loop .inv)
+    (perm (c .before .before .before .before .before .before .before .before))
     (c .before .before .before .before .loop-test .taken)
     (c .before .before .before .if1 .taken)
     (c .before .walk .last .1 .1 .0)
@@ -63,17 +53,14 @@ loop-again c =
     _
     (c .before .walk .ensures .0))
 
--- src/lib.rt:100:5
 loop-less-2 : tie.Need-loop-less-2 Inv-loop μ-loop
 loop-less-2 c = search needs
 
--- src/lib.rt:100:5
 loop-again-2 : tie.Need-loop-again-2 Inv-loop μ-loop
-loop-again-2 c = count-skip (perm (c .before .before .before .before .before)) (c .before .before .loop .inv) (c .before .loop-test .taken) (c .if1 .left)
+loop-again-2 c = count-skip (c .before .before .loop .inv) (perm (c .before .before .before .before .before)) (c .before .loop-test .taken) (c .if1 .left)
 
--- src/lib.rt:91:1
 returns : tie.Need-returns Inv-loop μ-loop
-returns c = count-end (perm (c .before .before .before .before)) (c .before .loop .inv) (c .loop-test .left)
+returns c = count-end (c .before .loop .inv) (c .loop-test .left)
 
 pub count-cycles-spec : {M : Type 1} → statement M
 count-cycles-spec =

@@ -1,6 +1,7 @@
+-- Fixed: with the first i edges tested, the count is how many of them the list fixes.
 use native.Mathlib.Omega.{arith}
 use mathlib.Core.Path.{_≡_, sym, _∙_}
-use Prim.Native.Nat.{ℕ, _-_, _≤_}
+use Prim.Native.Nat.{_-_, _≤_}
 use borrow.Author.Needs.{needs}
 use lib.ListN.{length}
 use Rattle.lists.specs.Lists.{at}
@@ -9,9 +10,6 @@ use Rattle.cycles.proofs.Cycles.{fixes-most}
 use Rattle.invariants.proofs.FixedEdges.{fixes-none, fixes-one-more, fixes-no-more}
 use Rattle.invariants.proofs.fixed.Statement.{statement}
 use Rattle.invariants.proofs.fixed.Tie as tie
-use Rattle.invariants.proofs.fixed.Reads as reads
-use Rattle.invariants.proofs.fixed.Lts as lts
-use Rattle.lists.proofs.wide.Reads as wide-reads
 
 abbrev Inv-loop : tie.InvT-loop
 Inv-loop s count₀ i₀ count i = (i ≤ length s) × (count ≡ fixes i (at s))
@@ -19,49 +17,38 @@ Inv-loop s count₀ i₀ count i = (i ≤ length s) × (count ≡ fixes i (at s)
 abbrev μ-loop : tie.MeasureT-loop
 μ-loop s count₀ i₀ count i = length s - i
 
--- src/lib.rt:44:5
 loop-holds : tie.Need-loop-holds Inv-loop μ-loop
 loop-holds c = (search needs, fixes-none _)
 
--- src/lib.rt:45:22
 mul-wide : tie.Need-mul-wide Inv-loop μ-loop
 mul-wide c = search needs
 
--- src/lib.rt:45:22
 shared-slice-read-wide : tie.Need-shared-slice-read-wide Inv-loop μ-loop
 shared-slice-read-wide c = search needs
 
--- src/lib.rt:45:13
 wide-requires : tie.Need-wide-requires Inv-loop μ-loop
 wide-requires c κs = search needs
 
--- src/lib.rt:46:9
 add-i : tie.Need-add-i Inv-loop μ-loop
 add-i c = search needs
 
--- src/lib.rt:48:13
 add-count : tie.Need-add-count Inv-loop μ-loop
 add-count c =
     let few = fixes-most (c .before .before .before .before .loop .i) (at (c .before .before .before .before .before .before .args .s .now)) in
     omega (arith, c .before .before .before .before .loop .inv .1, c .before .before .before .before .before .before .pre)
 
--- src/lib.rt:44:5
 loop-less : tie.Need-loop-less Inv-loop μ-loop
 loop-less c = search needs
 
--- src/lib.rt:44:5
 loop-again : tie.Need-loop-again Inv-loop μ-loop
 loop-again c = (omega arith, fixes-one-more _ _ _ (c .before .before .before .before .loop .inv .1) (sym (c .before .wide .ensures) ∙ c .if1 .taken))
 
--- src/lib.rt:44:5
 loop-less-2 : tie.Need-loop-less-2 Inv-loop μ-loop
 loop-less-2 c = search needs
 
--- src/lib.rt:44:5
 loop-again-2 : tie.Need-loop-again-2 Inv-loop μ-loop
 loop-again-2 c = (omega arith, fixes-no-more _ _ _ (c .before .before .before .before .loop .inv .1) (λ q. c .if1 .left (c .before .wide .ensures ∙ q)))
 
--- src/lib.rt:38:1
 returns : tie.Need-returns Inv-loop μ-loop
 returns c = let e : c .before .loop .i ≡ length (c .before .before .before .args .s .now) = omega arith in rw e at (c .before .loop .inv .1)
 

@@ -1,3 +1,4 @@
+-- Measure: each call gives the number that a definition names; those bound what t is given.
 use borrow.Author.Needs.{needs}
 use native.Mathlib.Omega.{arith}
 use mathlib.Core.Path.{_≡_, ap, _∙_}
@@ -12,34 +13,22 @@ use Rattle.cycles.proofs.Cycles.{fixes-most, cycles-most}
 use Rattle.invariants.proofs.Differences.{t-of}
 use Rattle.invariants.proofs.measure.Statement.{statement}
 use Rattle.invariants.proofs.measure.Tie as tie
-use Rattle.invariants.proofs.measure.Reads as reads
-use Rattle.invariants.proofs.measure.Lts as lts
-use Rattle.invariants.proofs.count_cycles.Reads as count-cycles-reads
-use Rattle.invariants.proofs.fixed.Reads as fixed-reads
-use Rattle.invariants.proofs.t.Reads as t-reads
-use Rattle.lists.proofs.wide.Reads as wide-reads
 
--- src/lib.rt:127:9
 fixed-requires : tie.Need-fixed-requires
 fixed-requires c κs = search needs
 
--- src/lib.rt:128:9
 fixed-requires-2 : tie.Need-fixed-requires-2
 fixed-requires-2 c κs = search needs
 
--- src/lib.rt:129:9
 count-cycles-requires : tie.Need-count-cycles-requires
 count-cycles-requires c κs = search needs
 
--- src/lib.rt:131:25
 wide-requires : tie.Need-wide-requires
 wide-requires c κs = search needs
 
--- src/lib.rt:131:35
 wide-requires-2 : tie.Need-wide-requires-2
 wide-requires-2 c κs = search needs
 
--- src/lib.rt:131:45
 wide-requires-3 : tie.Need-wide-requires-3
 wide-requires-3 c κs = search needs
 

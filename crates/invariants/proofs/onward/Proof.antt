@@ -1,3 +1,4 @@
+-- Onward: the white partner is an edge, so its black entry can be read.
 use borrow.Author.Needs.{needs}
 use mathlib.Core.Path.{_∙_}
 use native.Mathlib.Omega.{arith}
@@ -6,9 +7,6 @@ use lib.ListN.{length}
 use Rattle.invariants.proofs.Walks.{partner-in, onward-is}
 use Rattle.invariants.proofs.onward.Statement.{statement}
 use Rattle.invariants.proofs.onward.Tie as tie
-use Rattle.invariants.proofs.onward.Reads as reads
-use Rattle.invariants.proofs.onward.Lts as lts
-use Rattle.lists.proofs.wide.Reads as wide-reads
 
 -- the white partner that the code has read is an edge
 partner : (c : tie.After-wide) → Edge (length (c .before .before .before .before .args .s0 .now)) (c .wide .result)
@@ -17,35 +15,27 @@ partner c = rw (c .wide .ensures) (partner-in (c .before .before .before .before
 sub-wide : tie.Need-sub-wide
 sub-wide c = search needs
 
--- src/lib.rt:60:24
 mul-wide : tie.Need-mul-wide
 mul-wide c = search needs
 
--- src/lib.rt:60:24
 shared-slice-read-wide : tie.Need-shared-slice-read-wide
 shared-slice-read-wide c = search needs
 
--- src/lib.rt:60:9
 wide-requires : tie.Need-wide-requires
 wide-requires c κs = search needs
 
--- src/lib.rt:61:13
 sub-wide-2 : tie.Need-sub-wide-2
 sub-wide-2 c = partner c .0
 
--- src/lib.rt:61:10
 mul-wide-2 : tie.Need-mul-wide-2
 mul-wide-2 c = omega (arith, partner c, c .before .before .before .before .pre .0 .size)
 
--- src/lib.rt:61:10
 shared-slice-read-wide-2 : tie.Need-shared-slice-read-wide-2
 shared-slice-read-wide-2 c = omega (arith, partner (c .before))
 
--- src/lib.rt:61:5
 wide-requires-2 : tie.Need-wide-requires-2
 wide-requires-2 c κs = search needs
 
--- src/lib.rt:55:1
 returns : tie.Need-returns
 returns c = c .wide2 .ensures ∙ rw (c .before .before .wide .ensures) (onward-is (c .before .before .before .before .before .before .pre .0) _ (c .before .before .before .before .before .before .pre .1))
 

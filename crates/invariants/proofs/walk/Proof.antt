@@ -1,17 +1,14 @@
+-- Walk: as long as the start is not reached again, fewer edges are marked than the cycle has, and so fewer than there are.
 use native.Mathlib.Omega.{arith}
 use Prim.Native.Nat.{_-_, _≤_, _<_}
-use borrow.Author.Needs.{needs}
 use lib.ListN.{length}
 use Rattle.lists.specs.Lists.{at}
 use Rattle.lists.specs.Ranges.{Edge}
 use Rattle.cycles.specs.Cycles.{Perm, around}
-use Rattle.cycles.proofs.InvariantsAlike.{around-perm}
+use Rattle.cycles.proofs.Cycles.{around-perm}
 use Rattle.invariants.proofs.Walks.{Walking, walk-start, walk-in, walk-few, walk-next, walk-end}
 use Rattle.invariants.proofs.walk.Statement.{statement}
 use Rattle.invariants.proofs.walk.Tie as tie
-use Rattle.invariants.proofs.walk.Reads as reads
-use Rattle.invariants.proofs.walk.Lts as lts
-use Rattle.invariants.proofs.onward.Reads as onward-reads
 
 abbrev Inv-loop : tie.InvT-loop
 Inv-loop s0 s1 seen₀ i x₀ k₀ seen x k = Walking (length s0) (around (at s0) (at s1)) i seen₀ seen x k
@@ -36,31 +33,24 @@ few c = walk-few (perm (c .before .before .before)) (size (c .before .before .be
 loop-holds : tie.Need-loop-holds Inv-loop μ-loop
 loop-holds c = walk-start (perm (c .before .before)) (size (c .before .before)) _ (c .before .before .pre .1 .0) _ (c .before .before .pre .1 .1)
 
--- src/lib.rt:75:14
 sub-seen : tie.Need-sub-seen Inv-loop μ-loop
 sub-seen c = here c .0
 
--- src/lib.rt:75:9
 element-write-seen : tie.Need-element-write-seen Inv-loop μ-loop
 element-write-seen c = omega (arith, here c, size (c .before .before .before))
 
--- src/lib.rt:76:9
 onward-requires : tie.Need-onward-requires Inv-loop μ-loop
 onward-requires c κs = (c .before .before .before .pre .0, here c)
 
--- src/lib.rt:77:9
 add-k : tie.Need-add-k Inv-loop μ-loop
 add-k c = omega (arith, few (c .before), size (c .before .before .before .before))
 
--- src/lib.rt:79:13
 returns : tie.Need-returns Inv-loop μ-loop
 returns c = walk-end (perm (c .before .before .before .before .before)) (size (c .before .before .before .before .before)) _ (c .before .before .before .before .before .pre .1 .0) (c .before .before .loop .inv) _ (c .before .onward .ensures) (c .if1 .taken)
 
--- src/lib.rt:74:5
 loop-less : tie.Need-loop-less Inv-loop μ-loop
 loop-less c = omega (arith, few (c .before .before), size (c .before .before .before .before .before))
 
--- src/lib.rt:74:5
 loop-again : tie.Need-loop-again Inv-loop μ-loop
 loop-again c = walk-next (perm (c .before .before .before .before .before)) (size (c .before .before .before .before .before)) _ (c .before .before .before .before .before .pre .1 .0) (c .before .before .loop .inv) _ (c .before .onward .ensures) (c .if1 .left)
 

@@ -5,12 +5,14 @@ use Prim.Native.Nat.{_≤_}
 use native.Mathlib.Omega.{arith}
 use lib.ListN.{length}
 use lib.Seq.{length-take-le}
-use Rattle.reading.proofs.EventLaws.{end-refused, room-refused, room-refused-2, room-gave}
+use Rattle.reading.proofs.EventLaws.{end-refused, room-refused-black, room-refused-white, room-gave}
 use Rattle.reading.proofs.finish.Statement.{statement}
 use Rattle.reading.proofs.finish.Tie as tie
 
 -- both arrays have the entries that are copied
-long : (c : tie.After-wide) → (c .wide .result ≤ length (c .before .before .before .before .before .before .args .x0 .now)) × (c .wide .result ≤ length (c .before .before .before .before .before .before .args .x1 .now))
+long : (c : tie.After-wide) →
+    let a = c .before .before .before .before .before .before .args in
+    (c .wide .result ≤ length (a .x0 .now)) × (c .wide .result ≤ length (a .x1 .now))
 long c = let (nx, pv, t, o) = c .before .before .before .before .before .before .pre in omega (arith, c .wide .ensures, o .room, o .black-long, o .white-long)
 
 returns : tie.Need-returns
@@ -21,12 +23,14 @@ wide-requires c κs = search needs
 
 returns-2 : tie.Need-returns-2
 returns-2 c = λ nx pv t o.
-    rw (room-refused _ _ _ _ _ _ t o (c .before .before .if1 .left) (c .before .before .before .before .before .before .before .args .s0 .now) (c .before .before .before .before .before .before .before .args .s1 .now) (rw (c .before .wide .ensures) at (c .if2 .taken))) (refl, refl, refl)
+    let a = c .before .before .before .before .before .before .before .args in
+    rw (room-refused-black _ _ _ _ _ _ t o (c .before .before .if1 .left) (a .s0 .now) (a .s1 .now) (rw (c .before .wide .ensures) at (c .if2 .taken))) (refl, refl, refl)
 
 returns-3 : tie.Need-returns-3
 returns-3 c = λ nx pv t o.
+    let a = c .before .before .before .before .before .before .before .before .args in
     let e = c .before .before .wide .ensures in
-    rw (room-refused-2 _ _ _ _ _ _ t o (c .before .before .before .if1 .left) (c .before .before .before .before .before .before .before .before .args .s0 .now) (c .before .before .before .before .before .before .before .before .args .s1 .now) (rw e at (c .before .if2 .left)) (rw e at (c .if3 .taken))) (refl, refl, refl)
+    rw (room-refused-white _ _ _ _ _ _ t o (c .before .before .before .if1 .left) (a .s0 .now) (a .s1 .now) (rw e at (c .before .if2 .left)) (rw e at (c .if3 .taken))) (refl, refl, refl)
 
 slice-aggregate-fill : tie.Need-slice-aggregate-fill
 slice-aggregate-fill c = sym (length-take-le _ _ (long (c .before .before .before .before) .0))
@@ -48,9 +52,9 @@ same-length-2 c = search needs
 
 returns-4 : tie.Need-returns-4
 returns-4 c = λ nx pv t o.
+    let a = c .before .before .before .before .before .before .before .before .before .before .before .before .before .before .before .before .before .before .args in
     let e = c .before .before .before .before .before .before .before .before .before .before .before .before .wide .ensures in
-    room-gave _ _ _ _ _ _ t o (c .before .before .before .before .before .before .before .before .before .before .before .before .before .if1 .left) (c .before .before .before .before .before .before .before .before .before .before .before .before .before .before .before .before .before .before .args .s0 .now) (c .before .before .before .before .before .before .before .before .before .before .before .before .before .before .before .before .before .before .args .s1 .now) _ _ _ e (rw e at (c .before .before .before .before .before .before .before .before .before .before .before .if2 .left)) (rw e at (c .before .before .before .before .before .before .before .before .before .before .if3 .left))
-    (c .before .before .before .before .before .before .before .fill .ensures) (c .before .before .fill2 .ensures)
+    room-gave _ _ _ _ _ _ t o (c .before .before .before .before .before .before .before .before .before .before .before .before .before .if1 .left) (a .s0 .now) (a .s1 .now) _ _ _ e (rw e at (c .before .before .before .before .before .before .before .before .before .before .before .if2 .left)) (rw e at (c .before .before .before .before .before .before .before .before .before .before .if3 .left)) (c .before .before .before .before .before .before .before .fill .ensures) (c .before .before .fill2 .ensures)
 
 pub finish-spec : {M : Type 1} → statement M
 finish-spec =

@@ -1,4 +1,6 @@
 use borrow.Author.Needs.{needs}
+use mathlib.Core.Path.{_∙_, sym}
+use Rattle.succession.specs.Succession.{lead}
 use Rattle.succession.proofs.lead.Statement.{statement}
 use Rattle.succession.proofs.lead.Tie as tie
 use Rattle.succession.proofs.lead.Reads as reads
@@ -12,7 +14,8 @@ leads-requires c κs = search needs
 
 -- src/lib.rt:176:9
 returns : tie.Need-returns
-returns c = ?
+unfolding lead
+returns c = rw (sym (c .before .leads .ensures) ∙ c .if1 .taken)
 
 -- src/lib.rt:178:5
 above-requires : tie.Need-above-requires
@@ -20,7 +23,8 @@ above-requires c κs = search needs
 
 -- src/lib.rt:171:1
 returns-2 : tie.Need-returns-2
-returns-2 c = ?
+unfolding lead
+returns-2 c = rw (sym (c .before .before .leads .ensures) ∙ c .before .if1 .left) (c .above .ensures)
 
 pub lead-spec : {M : Type 1} → statement M
 lead-spec = tie.close (tie.spec leads-requires returns above-requires returns-2)

@@ -1,24 +1,19 @@
+-- `begin` meets its contract: the root is pushed, and the rest of its vertex as in F, where its black edge is another.
 use borrow.Author.Needs.{needs}
 use mathlib.Core.Path.{_≡_, sym, _∙_}
 use mathlib.Core.Logic.{_≢_}
 use mathlib.Core.List.{List, [], _∷_}
 use Prim.Native.Nat.{ℕ}
 use native.Mathlib.Omega.{arith}
-use lib.ListN.{length}
 use denote.Ref.{now}
-use Rattle.labelled.proofs.Underway.{accepts-small, root-new, did-U, did-T}
-use Rattle.pending.specs.Ring.{Ring}
-use Rattle.diagrams.specs.Check.{Accepts}
-use Rattle.lists.specs.Ranges.{Edge}
+use lib.ListN.{length}
 use Rattle.lists.specs.Lists.{at, Has}
+use Rattle.lists.specs.Ranges.{Edge}
+use Rattle.diagrams.specs.Check.{Accepts}
+use Rattle.pending.specs.Ring.{Ring}
+use Rattle.labelled.proofs.Underway.{accepts-small, root-new, did-U, did-T}
 use Rattle.labelled.proofs.events.begin.Statement.{statement}
 use Rattle.labelled.proofs.events.begin.Tie as tie
-use Rattle.labelled.proofs.events.begin.Reads as reads
-use Rattle.labelled.proofs.events.begin.Lts as lts
-use Rattle.labelled.proofs.events.follow.Reads as follow-reads
-use Rattle.labelled.proofs.events.fork.Reads as fork-reads
-use Rattle.labelled.proofs.events.give.Reads as give-reads
-use Rattle.pending.proofs.push.Reads as push-reads
 
 moved : (c : tie.Else1) → at (now (c .before .before .before .before .before .before .args .s0)) (c .before .before .before .before .before .before .args .root) ≢ c .before .before .before .before .before .before .args .root
 moved c e = c .if1 .left (c .before .before .before .before .follow .ensures ∙ e)
@@ -34,40 +29,32 @@ new c s1 a = rw (c .before .before .before .before .before .follow .ensures, thi
 rooted : (c : tie.After-push) → Ring (c .push .last .0) (c .push .last .1 .0) (c .before .before .before .before .before .args .root ∷ [])
 rooted c = c .push .ensures [] (c .before .before .before .before .before .pre .1 .empty) (λ h. h)
 
--- src/events.rt:78:9
 follow-requires : tie.Need-follow-requires
 follow-requires c κs = search needs
 
--- src/events.rt:79:5
 push-requires : tie.Need-push-requires
 push-requires c κs = search needs
 
--- src/events.rt:81:13
 give-requires : tie.Need-give-requires
 give-requires c κs = search needs
 
--- src/events.rt:82:9
 returns : tie.Need-returns
 returns c = λ s1 a. did-U _ s1 _ a _ _ _ _ _ (sym (c .before .before .before .before .before .before .before .follow .ensures) ∙ c .before .before .before .if1 .taken) (c .give .ensures .1 [] (c .before .before .before .before .before .before .before .before .before .pre .1 .unlabelled)) (rooted (c .before .before .before .before))
 
--- src/events.rt:84:9
 follow-requires-2 : tie.Need-follow-requires-2
 follow-requires-2 c κs =
     let (s1, a) = c .before .before .before .before .before .before .pre .0 in
     rw (c .before .before .before .before .follow .ensures) (a .blacks _ (a .root-in))
 
--- src/events.rt:85:9
 fork-requires : tie.Need-fork-requires
 fork-requires c κs =
     let (s1, a) = c .before .before .before .before .before .before .before .before .before .before .before .pre .0 in
     let e = a .root-in in
-    let small : (x : ℕ) → Edge (length (now (c .before .before .before .before .before .before .before .before .before .before .before .args .s0))) x → Edge 1024 x = λ x i. accepts-small _ s1 _ x a i in
-    (
+    let small : (x : ℕ) → Edge (length (now (c .before .before .before .before .before .before .before .before .before .before .before .args .s0))) x → Edge 1024 x = λ x i. accepts-small _ s1 _ x a i in (
       (omega arith, small _ e, rw (c .before .before .before .before .before .before .before .before .before .follow .ensures) (small _ (a .blacks _ e)), rw (third (c .before .before .before .before)) (small _ (a .blacks _ (a .blacks _ e)))),
       (c .before .before .before .before .before .before .before .before .before .before .before .args .root ∷ [], rooted (c .before .before .before .before .before .before), new (c .before .before .before .before) s1 a .0, new (c .before .before .before .before) s1 a .1),
     )
 
--- src/events.rt:71:1
 returns-2 : tie.Need-returns-2
 returns-2 c = λ s1 a.
     did-T _ s1 _ a _ _ _ _ _ (moved (c .before .before .before .before .before .before))

@@ -1,25 +1,19 @@
+-- `event` meets its contract. The tests of the code are those of `move`: the popped edge's partner is itself, has a label, or is fixed by
+-- the black list. Each helper says what one place of the code knows, in terms of the labelling under way.
 use borrow.Author.Needs.{needs}
-use mathlib.Core.Path.{_≡_, refl, sym, ap, _∙_}
+use mathlib.Core.Path.{_≡_, sym, _∙_}
+use mathlib.Core.Logic.{_≢_}
 use mathlib.Core.List.{List, _∷_}
 use Prim.Native.Nat.{ℕ}
 use denote.Ref.{now}
-use mathlib.Core.Logic.{_≢_}
 use lib.ListN.{length, getD}
-use Rattle.labelled.proofs.Underway.{accepts-small, popped-edge, partner-edge, partner-small, partner-pending, did-W, did-J, did-B, did-F, bud-room, fork-room, fork-new}
-use Rattle.labelled.specs.Scratch.{Underway, Did}
-use Rattle.pending.specs.Ring.{Ring}
 use Rattle.lists.specs.Lists.{at, Has}
 use Rattle.lists.specs.Ranges.{Edge}
+use Rattle.pending.specs.Ring.{Ring}
+use Rattle.labelled.specs.Scratch.{Underway}
+use Rattle.labelled.proofs.Underway.{accepts-small, popped-edge, partner-edge, partner-small, partner-pending, did-W, did-J, did-B, did-F, bud-room, fork-room, fork-new}
 use Rattle.labelled.proofs.events.event.Statement.{statement}
 use Rattle.labelled.proofs.events.event.Tie as tie
-use Rattle.labelled.proofs.events.event.Reads as reads
-use Rattle.labelled.proofs.events.event.Lts as lts
-use Rattle.labelled.proofs.events.follow.Reads as follow-reads
-use Rattle.labelled.proofs.events.fork.Reads as fork-reads
-use Rattle.labelled.proofs.events.give.Reads as give-reads
-use Rattle.labelled.proofs.events.join.Reads as join-reads
-use Rattle.lists.proofs.wide.Reads as wide-reads
-use Rattle.pending.proofs.pop.Reads as pop-reads
 
 -- the labelling under way, as the function finds it
 abbrev Found : tie.Start → List ℕ → ℕ → List ℕ → Type 0
@@ -59,75 +53,61 @@ pending c o k r u = rw (partner (c .before .before .before .before) o k r u) (pa
 new : (c : tie.After-follow3) (o : List ℕ) (k : ℕ) (r : List ℕ) → Found (c .before .before .before .before .before .before .before .before .before .before .before .before .before) o k r → (¬ Has (c .before .before .follow2 .result) r) × (¬ Has (c .follow3 .result) (c .before .before .follow2 .result ∷ r))
 new c o k r u = rw (second (c .before .before) o k r u, third c o k r u) (fork-new _ _ _ _ _ _ _ o k r u (apart (c .before .before .before .before .before .before) o k r u) (unlabelled (c .before .before .before) o k r u) (moved (c .before) o k r u))
 
--- src/events.rt:95:9
 pop-requires : tie.Need-pop-requires
 pop-requires c κs = search needs
 
--- src/events.rt:96:9
 follow-requires : tie.Need-follow-requires
 follow-requires c κs =
     let (o, k, r, u) = c .before .before .before .before .before .pre in
     rw (popped c o k r u .0, u .accepted .lengths) (popped-edge _ _ _ _ _ _ _ o k r u)
 
--- src/events.rt:98:9
 returns : tie.Need-returns
 returns c = λ o k r u. did-W _ _ _ _ _ _ _ o k r u _ _ (sym (partner (c .before) o k r u) ∙ c .if1 .taken ∙ popped (c .before .before) o k r u .0) (popped (c .before .before) o k r u .1)
 
--- src/events.rt:100:9
 wide-requires : tie.Need-wide-requires
 wide-requires c κs = search needs
 
--- src/events.rt:101:17
 mul-label : tie.Need-mul-label
 mul-label c = search needs
 
--- src/events.rt:101:17
 element-copy-out-label : tie.Need-element-copy-out-label
 element-copy-out-label c =
     let (o, k, r, u) = c .before .before .before .before .before .before .before .before .pre in
     rw (c .wide .ensures, partner (c .before .before) o k r u) (partner-small _ _ _ _ _ _ _ o k r u)
 
--- src/events.rt:103:13
 join-requires : tie.Need-join-requires
 join-requires c κs =
     let (o, k, r, u) = c .before .before .before .before .before .before .before .before .before .before .before .before .pre in
     (r, popped (c .before .before .before .before .before .before .before) o k r u .1, pending (c .before .before) o k r u)
 
--- src/events.rt:104:9
 returns-2 : tie.Need-returns-2
 returns-2 c = λ o k r u.
     let j = c .join .ensures r (popped (c .before .before .before .before .before .before .before .before) o k r u .1) (pending (c .before .before .before) o k r u) in
     did-J _ _ _ _ _ _ _ o k r u _ _ _ (apart (c .before .before .before .before .before .before) o k r u) (labelled (c .before .before .before) o k r u) (rw (partner (c .before .before .before .before .before .before .before) o k r u) at (j .0)) (rw (partner (c .before .before .before .before .before .before .before) o k r u) at (j .1))
 
--- src/events.rt:106:9
 follow-requires-2 : tie.Need-follow-requires-2
 follow-requires-2 c κs =
     let (o, k, r, u) = c .before .before .before .before .before .before .before .before .before .before .pre in
     rw (partner (c .before .before .before .before) o k r u) (partner-edge _ _ _ _ _ _ _ o k r u)
 
--- src/events.rt:108:13
 give-requires : tie.Need-give-requires
 give-requires c κs =
     let (o, k, r, u) = c .before .before .before .before .before .before .before .before .before .before .before .before .before .before .pre in
     (bud-room _ _ _ _ _ _ _ o k r u (apart (c .before .before .before .before .before .before .before) o k r u) (unlabelled (c .before .before .before .before) o k r u) (fixed (c .before .before) o k r u), rw (partner (c .before .before .before .before .before .before .before .before) o k r u) (partner-small _ _ _ _ _ _ _ o k r u))
 
--- src/events.rt:109:9
 returns-3 : tie.Need-returns-3
 returns-3 c = λ o k r u. did-B _ _ _ _ _ _ _ o k r u _ _ _ _ _ (apart (c .before .before .before .before .before .before .before .before) o k r u) (unlabelled (c .before .before .before .before .before) o k r u) (fixed (c .before .before .before) o k r u) (rw (partner (c .before .before .before .before .before .before .before .before .before) o k r u) at (c .give .ensures .1 o (u .holds))) (popped (c .before .before .before .before .before .before .before .before .before .before) o k r u .1)
 
--- src/events.rt:111:9
 follow-requires-3 : tie.Need-follow-requires-3
 follow-requires-3 c κs =
     let (o, k, r, u) = c .before .before .before .before .before .before .before .before .before .before .before .before .pre in
     rw (second (c .before) o k r u) (u .accepted .blacks _ (partner-edge _ _ _ _ _ _ _ o k r u))
 
--- src/events.rt:112:9
 fork-requires : tie.Need-fork-requires
 fork-requires c κs =
     let (o, k, r, u) = c .before .before .before .before .before .before .before .before .before .before .before .before .before .before .before .before .before .pre in
     let e = partner-edge _ _ _ _ _ _ _ o k r u in
-    let small : (x : ℕ) → Edge (length (now (c .before .before .before .before .before .before .before .before .before .before .before .before .before .before .before .before .before .args .s0))) x → Edge 1024 x = λ x i. accepts-small _ _ 1 x (u .accepted) i in
-    (
+    let small : (x : ℕ) → Edge (length (now (c .before .before .before .before .before .before .before .before .before .before .before .before .before .before .before .before .before .args .s0))) x → Edge 1024 x = λ x i. accepts-small _ _ 1 x (u .accepted) i in (
       (
         fork-room _ _ _ _ _ _ _ o k r u (apart (c .before .before .before .before .before .before .before .before .before .before) o k r u) (unlabelled (c .before .before .before .before .before .before .before) o k r u) (moved (c .before .before .before .before .before) o k r u),
         rw (partner (c .before .before .before .before .before .before .before .before .before .before .before) o k r u) (small _ e),
@@ -137,7 +117,6 @@ fork-requires c κs =
       (r, popped (c .before .before .before .before .before .before .before .before .before .before .before .before) o k r u .1, new (c .before .before .before .before) o k r u .0, new (c .before .before .before .before) o k r u .1),
     )
 
--- src/events.rt:90:1
 returns-4 : tie.Need-returns-4
 returns-4 c = λ o k r u.
     did-F _ _ _ _ _ _ _ o k r u _ _ _ _ _ (apart (c .before .before .before .before .before .before .before .before .before .before .before) o k r u) (unlabelled (c .before .before .before .before .before .before .before .before) o k r u) (moved (c .before .before .before .before .before .before) o k r u)

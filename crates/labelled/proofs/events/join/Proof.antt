@@ -1,23 +1,17 @@
+-- `join` meets its contract: the depth is the partner's place in the stack, and at most 1,024 edges are pending, so the item fits.
 use borrow.Author.Needs.{needs}
 use native.Mathlib.Omega.{arith}
-use Rattle.pending.proofs.Laws.{ring-few}
 use Rattle.lists.proofs.Lists.{find-lt}
+use Rattle.pending.proofs.Laws.{ring-few}
 use Rattle.labelled.proofs.events.join.Statement.{statement}
 use Rattle.labelled.proofs.events.join.Tie as tie
-use Rattle.labelled.proofs.events.join.Reads as reads
-use Rattle.labelled.proofs.events.join.Lts as lts
-use Rattle.pending.proofs.depth.Reads as depth-reads
-use Rattle.pending.proofs.unhook.Reads as unhook-reads
 
--- src/events.rt:50:9
 depth-requires : tie.Need-depth-requires
 depth-requires c κs = search needs
 
--- src/events.rt:51:5
 unhook-requires : tie.Need-unhook-requires
 unhook-requires c κs = search needs
 
--- src/events.rt:52:6
 add-result : tie.Need-add-result
 add-result c =
     let (st, r, h) = c .before .before .before .before .before .pre in
@@ -26,7 +20,6 @@ add-result c =
     let j = ring-few _ _ st r in
     omega arith
 
--- src/events.rt:52:5
 cast-result : tie.Need-cast-result
 cast-result c =
     let (st, r, h) = c .before .before .before .before .before .pre in
@@ -35,7 +28,6 @@ cast-result c =
     let j = ring-few _ _ st r in
     omega arith
 
--- src/events.rt:45:1
 returns : tie.Need-returns
 returns c = λ st r h. (let e = c .before .before .before .depth .ensures _ st r h in omega arith, c .unhook .ensures st r h)
 

@@ -1,12 +1,10 @@
+-- `take_back` meets its contract. The loop's invariant: the arrays hold the labels that are left.
 use borrow.Author.Needs.{needs}
 use native.Mathlib.Omega.{arith}
-use Rattle.labelled.proofs.Arrays.{take-back, taken-back}
 use Rattle.labelled.specs.Scratch.{HoldsSome}
+use Rattle.labelled.proofs.Arrays.{take-back, taken-back}
 use Rattle.labelled.proofs.writing.take_back.Statement.{statement}
 use Rattle.labelled.proofs.writing.take_back.Tie as tie
-use Rattle.labelled.proofs.writing.take_back.Reads as reads
-use Rattle.labelled.proofs.writing.take_back.Lts as lts
-use Rattle.lists.proofs.wide.Reads as wide-reads
 
 abbrev Inv-loop : tie.InvT-loop
 Inv-loop labels₀ order given left₀ labels left = HoldsSome labels order left
@@ -14,49 +12,38 @@ Inv-loop labels₀ order given left₀ labels left = HoldsSome labels order left
 abbrev μ-loop : tie.MeasureT-loop
 μ-loop labels₀ order given left₀ labels left = left
 
--- src/writing.rt:51:5
 loop-holds : tie.Need-loop-holds Inv-loop μ-loop
 loop-holds c = c .pre
 
--- src/writing.rt:52:23
 wide-requires : tie.Need-wide-requires Inv-loop μ-loop
 wide-requires c κs = search needs
 
--- src/writing.rt:52:17
 mul-x : tie.Need-mul-x Inv-loop μ-loop
 mul-x c = search needs
 
--- src/writing.rt:52:17
 element-copy-out-x : tie.Need-element-copy-out-x Inv-loop μ-loop
 element-copy-out-x c = let i = c .before .before .loop .inv .room in rw (c .wide .ensures) (omega arith)
 
--- src/writing.rt:53:16
 wide-requires-2 : tie.Need-wide-requires-2 Inv-loop μ-loop
 wide-requires-2 c κs = search needs
 
--- src/writing.rt:53:9
 mul-labels : tie.Need-mul-labels Inv-loop μ-loop
 mul-labels c =
     let i = take-back _ _ _ (c .before .before .before .before .loop .inv) (c .before .before .before .loop-test .taken) .0 in
     rw (c .wide2 .ensures, c .before .before .wide .ensures) (omega arith)
 
--- src/writing.rt:53:9
 element-write-labels : tie.Need-element-write-labels Inv-loop μ-loop
 element-write-labels c = rw (c .wide2 .ensures, c .before .before .wide .ensures) (take-back _ _ _ (c .before .before .before .before .loop .inv) (c .before .before .before .loop-test .taken) .0)
 
--- src/writing.rt:54:9
 sub-left : tie.Need-sub-left Inv-loop μ-loop
 sub-left c = omega (arith, c .before .before .before .loop-test .taken)
 
--- src/writing.rt:51:5
 loop-less : tie.Need-loop-less Inv-loop μ-loop
 loop-less c = omega (arith, c .before .before .before .loop-test .taken)
 
--- src/writing.rt:51:5
 loop-again : tie.Need-loop-again Inv-loop μ-loop
 loop-again c = rw (c .wide2 .ensures, c .before .before .wide .ensures) (take-back _ _ _ (c .before .before .before .before .loop .inv) (c .before .before .before .loop-test .taken) .1)
 
--- src/writing.rt:46:1
 returns : tie.Need-returns Inv-loop μ-loop
 returns c = taken-back _ _ _ (c .before .loop .inv) (c .loop-test .left)
 

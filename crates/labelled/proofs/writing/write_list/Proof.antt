@@ -1,21 +1,18 @@
+-- `write_list` meets its contract. The loop's invariant: the entries of the labels 1..j are written.
 use borrow.Author.Needs.{needs}
-use mathlib.Core.Path.{_≡_, refl, ap, _∙_}
+use mathlib.Core.Path.{_≡_, refl, _∙_}
 use mathlib.Core.List.{List, _++_}
-use Prim.Native.Nat.{ℕ, suc, _+_, _-_, _≤_, _<_}
+use Prim.Native.Nat.{ℕ, _+_, _-_, _≤_, _<_}
 use native.Mathlib.Omega.{arith}
 use denote.Ref.{now}
 use lib.ListN.{length, getD, drop}
-use Rattle.labelled.proofs.Arrays.{seen, listed-more, listed-length}
-use Rattle.labelled.specs.Scratch.{Holds}
-use Rattle.labelling.specs.Labelling.{relabel}
-use Rattle.lists.specs.Ranges.{Edge}
 use Rattle.lists.specs.Lists.{at, listed}
+use Rattle.lists.specs.Ranges.{Edge}
+use Rattle.labelling.specs.Labelling.{relabel}
+use Rattle.labelled.specs.Scratch.{Holds}
+use Rattle.labelled.proofs.Arrays.{seen, listed-more, listed-length}
 use Rattle.labelled.proofs.writing.write_list.Statement.{statement}
 use Rattle.labelled.proofs.writing.write_list.Tie as tie
-use Rattle.labelled.proofs.writing.write_list.Reads as reads
-use Rattle.labelled.proofs.writing.write_list.Lts as lts
-use Rattle.labelled.proofs.events.follow.Reads as follow-reads
-use Rattle.lists.proofs.wide.Reads as wide-reads
 
 abbrev Inv-loop : tie.InvT-loop
 Inv-loop s labels order t₀ n j₀ t j = (n ≡ length s) × (j ≤ n) × ((o : List ℕ) → Holds labels order (length s) o → t ≡ listed (relabel o (at s)) j ++ drop j t₀)
@@ -42,69 +39,54 @@ length-kept c =
     let (o, h, e) = c .before .before .before .pre .1 in
     rw (c .loop .inv .2 o h) (listed-length (relabel o (at (now (c .before .before .before .args .s)))) (now (c .before .before .before .args .t)) (c .loop .j) (search needs))
 
--- src/writing.rt:67:5
 loop-holds : tie.Need-loop-holds Inv-loop μ-loop
 loop-holds c = (refl, search needs, λ o h. refl)
 
--- src/writing.rt:68:33
 add-follow : tie.Need-add-follow Inv-loop μ-loop
 add-follow c = search needs
 
--- src/writing.rt:68:27
 mul-follow : tie.Need-mul-follow Inv-loop μ-loop
 mul-follow c = search needs
 
--- src/writing.rt:68:27
 element-copy-out-follow : tie.Need-element-copy-out-follow Inv-loop μ-loop
 element-copy-out-follow c = search needs
 
--- src/writing.rt:68:13
 follow-requires : tie.Need-follow-requires Inv-loop μ-loop
 follow-requires c κs = edge-in (c .before)
 
--- src/writing.rt:69:23
 wide-requires : tie.Need-wide-requires Inv-loop μ-loop
 wide-requires c κs = search needs
 
--- src/writing.rt:69:16
 mul-t : tie.Need-mul-t Inv-loop μ-loop
 mul-t c = let i = image-small c in search needs
 
--- src/writing.rt:69:16
 element-copy-out-t : tie.Need-element-copy-out-t Inv-loop μ-loop
 element-copy-out-t c = image-small c
 
--- src/writing.rt:69:9
 mul-t-2 : tie.Need-mul-t-2 Inv-loop μ-loop
 mul-t-2 c = search needs
 
--- src/writing.rt:69:9
 slice-write-t : tie.Need-slice-write-t Inv-loop μ-loop
 slice-write-t c = let i = length-kept (c .before .before .before .before .before) in omega arith
 
--- src/writing.rt:70:9
 add-j : tie.Need-add-j Inv-loop μ-loop
 add-j c = search needs
 
--- src/writing.rt:67:5
 loop-less : tie.Need-loop-less Inv-loop μ-loop
 loop-less c = search needs
 
--- src/writing.rt:67:5
 loop-again : tie.Need-loop-again Inv-loop μ-loop
 loop-again c = (
   refl,
   search needs,
   λ o h.
-    rw (c .before .before .before .before .before .loop .inv .2 o h, image (c .before), seen (now (c .before .before .before .before .before .before .before .before .args .s)) (now (c .before .before .before .before .before .before .before .before .args .labels)) (now (c .before .before .before .before .before .before .before .before .args .order)) o (c .before .before .before .before .before .loop .j) h (search needs))
-    (listed-more (relabel o (at (now (c .before .before .before .before .before .before .before .before .args .s)))) (now (c .before .before .before .before .before .before .before .before .args .t)) (c .before .before .before .before .before .loop .j) (search needs)),
+      rw (c .before .before .before .before .before .loop .inv .2 o h, image (c .before), seen (now (c .before .before .before .before .before .before .before .before .args .s)) (now (c .before .before .before .before .before .before .before .before .args .labels)) (now (c .before .before .before .before .before .before .before .before .args .order)) o (c .before .before .before .before .before .loop .j) h (search needs))
+      (listed-more (relabel o (at (now (c .before .before .before .before .before .before .before .before .args .s)))) (now (c .before .before .before .before .before .before .before .before .args .t)) (c .before .before .before .before .before .loop .j) (search needs)),
 )
 
--- src/writing.rt:59:1
 same-length : tie.Need-same-length Inv-loop μ-loop
 same-length c = length-kept (c .before)
 
--- src/writing.rt:59:1
 returns : tie.Need-returns Inv-loop μ-loop
 returns c = λ o h. let e : c .before .loop .j ≡ length (now (c .before .before .before .before .args .s)) = omega arith in c .before .loop .inv .2 o h ∙ rw e
 

@@ -1,0 +1,67 @@
+-- The loops over the rootings: what the traces of the rootings 1..x have shown.
+use mathlib.Core.Path.{_≡_, sym, ap, _∙_}
+use mathlib.Core.Logic.{_≢_, _⊎_, inl, inr}
+use mathlib.Core.Bool.{Bool, true, false, true≢false}
+use mathlib.Core.List.{List}
+use Prim.Native.Nat.{ℕ, zero, suc, _+_, _≤_, _<_}
+use native.Mathlib.Omega.{arith}
+use native.Mathlib.Numerals.{add-one}
+use lib.ListN.{length}
+use Rattle.lists.specs.Lists.{pick}
+use Rattle.lists.specs.Ranges.{Edge, tally}
+use Rattle.lists.proofs.Tests.{same?}
+use Rattle.words.specs.Order.{Before, precedes}
+use Rattle.words.proofs.Order.{precedes-true, precedes-false}
+use Rattle.labelling.specs.Labelling.{wordOf}
+use Rattle.labelling.specs.Rootings.{same}
+use Rattle.labelled.specs.Scratch.{Ready}
+use Rattle.labelled.specs.Traced.{Traced}
+use Rattle.canonical.specs.Among.{NoneBefore, SomeRooting}
+use Rattle.canonical.proofs.Sameness.{same-true, same-self}
+
+-- x of the n rootings are tried; the arrays are fit for the next, and the list of the trace keeps its length
+pub record Tried (s0 : List ℕ) (n : ℕ) (la od nx pv cand₀ cand : List ℕ) (x : ℕ) : Type 0 where
+  pub size-is : n ≡ length s0
+  pub within : x ≤ n
+  pub ready : Ready la od nx pv
+  pub long : length cand ≡ length cand₀
+
+-- a statement of the rootings 1..x, and the next one's
+each-more : (P : ℕ → Type 0) (x : ℕ) → ((y : ℕ) → Edge x y → P y) → P (x + 1) → (y : ℕ) → Edge (x + 1) y → P y
+each-more P x k p y e = go (same? y (x + 1))
+  where
+    go : (y ≡ x + 1) ⊎ (y ≢ x + 1) → P y
+    go (inl q) = rw q p
+    go (inr q) = k y (omega (arith, q))
+
+pub tally-few : (n : ℕ) (t : ℕ → Bool) → tally n t ≤ n
+tally-few zero t = omega arith
+tally-few (suc n) t = go (t (suc n)) (tally-few n t)
+  where
+    go : (b : Bool) → tally n t ≤ n → pick b 1 0 + tally n t ≤ suc n
+    go true h = omega arith
+    go false h = omega arith
+
+module _ (s0 s1 own c : List ℕ) (x : ℕ) (t : Traced s0 s1 (x + 1) own c) where
+  -- ---- none before
+
+  pub none-more : ((y : ℕ) → Edge x y → ¬ Before (wordOf s0 s1 y) own) → precedes c own ≡ false → (y : ℕ) → Edge (x + 1) y → ¬ Before (wordOf s0 s1 y) own
+  none-more k e = each-more (λ y. ¬ Before (wordOf s0 s1 y) own) x k (precedes-false (wordOf s0 s1 (x + 1)) own (sym (t .order-as) ∙ e))
+
+  pub none-fails : x < length s0 → precedes c own ≡ true → ¬ NoneBefore s0 s1 own
+  unfolding NoneBefore
+  none-fails h e k = k (x + 1) (omega arith) (precedes-true (wordOf s0 s1 (x + 1)) own (sym (t .order-as) ∙ e))
+
+  -- ---- some rooting with this word
+
+  pub unlike-more : ((y : ℕ) → Edge x y → wordOf s0 s1 y ≢ own) → same c own ≡ false → (y : ℕ) → Edge (x + 1) y → wordOf s0 s1 y ≢ own
+  unlike-more k e = each-more (λ y. wordOf s0 s1 y ≢ own) x k (λ q. true≢false (sym (same-self own) ∙ ap (λ (w : List ℕ). same w own) (sym q) ∙ sym (t .same-as) ∙ e))
+
+  pub some-found : x < length s0 → same c own ≡ true → SomeRooting s0 s1 own
+  unfolding SomeRooting
+  some-found h e = (x + 1, omega arith, same-true (wordOf s0 s1 (x + 1)) own (sym (t .same-as) ∙ e))
+
+  -- ---- their number
+
+  pub tally-more : (b : Bool) → same c own ≡ b → tally (x + 1) (λ y. same (wordOf s0 s1 y) own) ≡ pick b 1 0 + tally x (λ y. same (wordOf s0 s1 y) own)
+  tally-more b e = rw (add-one x) (ap (λ (d : Bool). pick d 1 0 + tally x (λ y. same (wordOf s0 s1 y) own)) (rw (add-one x) at (sym (t .same-as) ∙ e)))

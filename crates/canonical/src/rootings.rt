@@ -1,0 +1,137 @@
+// A word among the words of a diagram's rootings. These ask for an accepted diagram and for arrays fit for a labelling, which they leave
+// so: whoever knows its diagram to be good calls them without a check, and clears no array.
+use labelled::tracing::trace;
+ghost use mathlib.Core.Path.{_≡_};
+ghost use mathlib.Core.Logic.{_↔_};
+ghost use mathlib.Core.Bool.{true};
+ghost use Prim.Native.Nat.{_<_};
+ghost use lib.ListN.{length};
+ghost use Rattle.words.specs.Order.{precedes};
+ghost use Rattle.diagrams.specs.Check.{Accepts};
+ghost use Rattle.labelling.specs.Rootings.{same};
+ghost use Rattle.labelled.specs.Scratch.{Ready};
+ghost use Rattle.canonical.specs.Among.{NoneBefore, SomeRooting, rootingsWith};
+
+// Whether two words are the same.
+pub fn same(a: &[u16], b: &[u16]) -> bool
+    ensures { λ r. ⌜ r ≡ same (now (a .entry)) (now (b .entry)) ⌝ }
+{
+    if a.len() != b.len() {
+        return false;
+    }
+    let mut i: usize = 0;
+    while i < a.len() {
+        if a[i] != b[i] {
+            return false;
+        }
+        i += 1;
+    }
+    true
+}
+
+// Whether the lesser of own and the word c comes before own: whether it is c.
+fn beaten<'a>(own: &'a [u16], c: &'a [u16]) -> bool
+    ensures { λ r. ⌜ r ≡ precedes (now (c .entry)) (now (own .entry)) ⌝ }
+{
+    let least = words::lesser(own, c);
+    words::precedes(least, own)
+}
+
+// The same at the cost of the word c alone: one item more of own decides as all of it does.
+fn beaten_soon<'a>(own: &'a [u16], c: &'a [u16]) -> bool
+    ensures { λ r. ⌜ r ≡ precedes (now (c .entry)) (now (own .entry)) ⌝ }
+{
+    let k = c.len();
+    if own.len() <= k {
+        return beaten(own, c);
+    }
+    beaten(&own[..k + 1], c)
+}
+
+// Whether no rooting's word comes before own.
+pub fn none_before(
+    s0: &[u16],
+    s1: &[u16],
+    labels: &mut [u16; 1025],
+    order: &mut [u16; 1025],
+    next: &mut [u16; 1025],
+    prev: &mut [u16; 1025],
+    own: &[u16],
+    cand: &mut [u16],
+) -> bool
+    requires { ⌜ Accepts (now s0) (now s1) 1 ⌝ }
+    requires { ⌜ Ready (now labels) (now order) (now next) (now prev) ⌝ }
+    requires { ⌜ length (now s0) < length (now cand) ⌝ }
+    ensures answer { λ r. ⌜ (r ≡ true) ↔ NoneBefore (now (s0 .entry)) (now (s1 .entry)) (now (own .entry)) ⌝ }
+    ensures ready { λ _. ⌜ Ready (now (labels .exit)) (now (order .exit)) (now (next .exit)) (now (prev .exit)) ⌝ }
+{
+    let n = s0.len();
+    let mut x: usize = 0;
+    while x < n {
+        x += 1;
+        let k = trace(s0, s1, labels, order, next, prev, x as u16, own, cand);
+        if beaten_soon(own, &cand[..k]) {
+            return false;
+        }
+    }
+    true
+}
+
+// Whether some rooting has the word own.
+pub fn some_rooting(
+    s0: &[u16],
+    s1: &[u16],
+    labels: &mut [u16; 1025],
+    order: &mut [u16; 1025],
+    next: &mut [u16; 1025],
+    prev: &mut [u16; 1025],
+    own: &[u16],
+    cand: &mut [u16],
+) -> bool
+    requires { ⌜ Accepts (now s0) (now s1) 1 ⌝ }
+    requires { ⌜ Ready (now labels) (now order) (now next) (now prev) ⌝ }
+    requires { ⌜ length (now s0) < length (now cand) ⌝ }
+    ensures answer { λ r. ⌜ (r ≡ true) ↔ SomeRooting (now (s0 .entry)) (now (s1 .entry)) (now (own .entry)) ⌝ }
+    ensures ready { λ _. ⌜ Ready (now (labels .exit)) (now (order .exit)) (now (next .exit)) (now (prev .exit)) ⌝ }
+{
+    let n = s0.len();
+    let mut x: usize = 0;
+    while x < n {
+        x += 1;
+        let k = trace(s0, s1, labels, order, next, prev, x as u16, own, cand);
+        if same(&cand[..k], own) {
+            return true;
+        }
+    }
+    false
+}
+
+// How many rootings have the word own.
+pub fn rootings_with(
+    s0: &[u16],
+    s1: &[u16],
+    labels: &mut [u16; 1025],
+    order: &mut [u16; 1025],
+    next: &mut [u16; 1025],
+    prev: &mut [u16; 1025],
+    own: &[u16],
+    cand: &mut [u16],
+) -> u16
+    requires { ⌜ Accepts (now s0) (now s1) 1 ⌝ }
+    requires { ⌜ Ready (now labels) (now order) (now next) (now prev) ⌝ }
+    requires { ⌜ length (now s0) < length (now cand) ⌝ }
+    ensures number { λ r. ⌜ r ≡ rootingsWith (now (s0 .entry)) (now (s1 .entry)) (now (own .entry)) ⌝ }
+    ensures ready { λ _. ⌜ Ready (now (labels .exit)) (now (order .exit)) (now (next .exit)) (now (prev .exit)) ⌝ }
+{
+    let n = s0.len();
+    let mut found: u16 = 0;
+    let mut x: usize = 0;
+    while x < n {
+        x += 1;
+        let k = trace(s0, s1, labels, order, next, prev, x as u16, own, cand);
+        if same(&cand[..k], own) {
+            found += 1;
+        }
+    }
+    found
+}

@@ -1,0 +1,5 @@
+pub mod EventBlocks
+pub mod Choices
+pub mod Passing
+pub mod Places
+pub mod Answers

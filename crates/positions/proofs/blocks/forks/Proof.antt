@@ -1,0 +1,22 @@
+-- `forks` looks up the block of F where there are three labels free.
+use borrow.Author.Needs.{needs}
+use mathlib.Core.Path.{sym, _∙_}
+use native.Mathlib.Omega.{arith}
+use Rattle.positions.proofs.EventBlocks.{forks-few, forks-more}
+use Rattle.positions.proofs.blocks.forks.Statement.{statement}
+use Rattle.positions.proofs.blocks.forks.Tie as tie
+
+returns : tie.Need-returns
+returns c = sym (forks-few _ _ (c .if1 .taken))
+
+add-ways : tie.Need-add-ways
+add-ways c = search needs
+
+ways-requires : tie.Need-ways-requires
+ways-requires c κs = search needs
+
+returns-2 : tie.Need-returns-2
+returns-2 c = c .ways .ensures .inside (omega arith) ∙ sym (forks-more _ _ (c .before .if1 .left))
+
+pub forks-spec : {M : Type 1} → statement M
+forks-spec = tie.close (tie.spec returns add-ways ways-requires returns-2)

@@ -1,0 +1,60 @@
+-- A word that is held in 51 places: its beginning is the word, and what is written from it is the diagram that it spells, the word and the run.
+use mathlib.Core.Path.{_≡_, refl, sym, ap, _∙_}
+use mathlib.Core.Logic.{_⊎_, inl, inr}
+use mathlib.Core.Option.{some}
+use mathlib.Core.List.{List, [], _∷_, _++_}
+use Prim.Native.Nat.{ℕ, zero, suc, _+_, _-_, _≤_, _<_}
+use native.Mathlib.Omega.{arith}
+use lib.Dec.{leb}
+use lib.ListN.{length, take, drop, replicate, length-append}
+use lib.Seq.{take-append-seam}
+use Rattle.lists.specs.Lists.{pick}
+use Rattle.lists.proofs.Tests.{lt?, le-true}
+use Rattle.words.specs.Word.{Pair, spell, Spells}
+use Rattle.words.specs.Shape.{Word}
+use Rattle.words.specs.Outputs.{over, Short}
+use Rattle.words.proofs.Shape.{word-spells, word-length}
+use Rattle.counting.specs.Diagrams.{diagramOf}
+use Rattle.succession.specs.declared.Held.{Held}
+use Rattle.succession.specs.Succession.{padded, held}
+use Rattle.running.specs.declared.Run.{Run}
+use Rattle.running.specs.Promises.{at}
+
+pub long-enough : (n : ℕ) (a0 a1 aw : List ℕ) → ¬ Short n a0 a1 aw → (n ≤ length a0) × (n ≤ length a1) × (suc n ≤ length aw)
+long-enough n a0 a1 aw k = (by n (length a0) (λ l. k (inl l)), by n (length a1) (λ l. k (inr (inl l))), by (suc n) (length aw) (λ l. k (inr (inr l))))
+  where
+    by : (m l : ℕ) → ¬ (l < m) → m ≤ l
+    by m l k = go (lt? l m)
+      where
+        go : (l < m) ⊎ (m ≤ l) → m ≤ l
+        go (inl a) = absurd (k a)
+        go (inr a) = a
+
+module _ (n : ℕ) (w : List ℕ) (next : Held) (e : next ≡ held w) (a : Word n w) where
+  pub held-length : next .length ≡ length w
+  held-length = ap (λ (h : Held). h .length) e
+
+  held-items : next .items ≡ padded w
+  held-items = ap (λ (h : Held). h .items) e
+
+  pub held-small : next .length ≤ suc n
+  held-small = rw held-length (word-length n w a)
+
+  pub held-within : next .length ≤ length (next .items)
+  held-within = rw (held-length, held-items, length-append) (omega arith)
+
+  pub held-word : take (next .length) (next .items) ≡ w
+  held-word = rw (held-length, held-items) (take-append-seam w (replicate (51 - length w) 0))
+
+  pub held-spells : Spells n (take (next .length) (next .items))
+  held-spells = rw held-word (word-spells n w a)
+
+  pub held-diagram : spell (take (next .length) (next .items)) ≡ some (diagramOf w)
+  unfolding diagramOf
+  held-diagram = let s = word-spells n w a in rw (held-word, s .spelt)
+
+  pub held-at : _≡_ {A = Run} record { size = n; stage = 1; length = next .length; items = next .items } (at n w)
+  held-at = rw (held-length, held-items)
+
+  pub held-over : (aw bw : List ℕ) → suc n ≤ length aw → let u = take (next .length) (next .items) in bw ≡ pick (leb (length u) (length aw)) (u ++ drop (length u) aw) aw → bw ≡ over w aw
+  held-over aw bw l q = q ∙ rw (held-word, le-true (length w) (length aw) (let i = word-length n w a in omega arith))

@@ -1,0 +1,4 @@
+pub mod Blanks
+pub mod Soundness
+pub mod Giving
+pub mod Standing

@@ -1,0 +1,41 @@
+use borrow.Author.Needs.{needs}
+use mathlib.Core.Path.{sym}
+use lib.ListN.{length}
+use Rattle.lists.proofs.Tests.{eqb-true, eqb-false}
+use Rattle.running.proofs.Soundness.{staged-at, staged-few, staged-none, staged-empty}
+use mathlib.Core.Logic.{inl}
+use mathlib.Core.Bool.{true≢false}
+use native.Mathlib.Omega.{arith}
+use Rattle.running.proofs.staged.Statement.{statement}
+use Rattle.running.proofs.staged.Tie as tie
+use Rattle.running.proofs.staged.Reads as reads
+use Rattle.running.proofs.staged.Lts as lts
+use Rattle.succession.proofs.is_word.Reads as is-word-reads
+
+-- src/lib.rt:104:9
+is-word-requires : tie.Need-is-word-requires
+is-word-requires c κs = search needs
+
+-- src/lib.rt:104:9
+returns : tie.Need-returns
+returns c =
+    let a = c .before .before .before .args in
+    (λ e. inl (c .before .if1 .taken, c .is-word .ensures .0 e), λ e s. c .is-word .ensures .1 e (staged-at (a .stage) (a .n) (a .word .now) (c .before .if1 .taken) s))
+
+-- src/lib.rt:107:9
+returns-2 : tie.Need-returns-2
+returns-2 c =
+    let a = c .before .before .before .args in
+    (λ e. absurd (true≢false (sym e)), λ e s. let l = staged-few (a .stage) (a .n) (a .word .now) s in omega arith)
+
+-- src/lib.rt:99:1
+returns-3 : tie.Need-returns-3
+returns-3 c =
+    let a = c .before .before .before .args in
+    (
+      λ e. staged-none (a .stage) (a .n) (a .word .now) (c .before .if1 .left) (c .if2 .left) (eqb-true (length (a .word .now)) 0 e),
+      λ e s. eqb-false (length (a .word .now)) 0 e (staged-empty (a .stage) (a .n) (a .word .now) (c .before .if1 .left) s),
+    )
+
+pub staged-spec : {M : Type 1} → statement M
+staged-spec = tie.close (tie.spec is-word-requires returns returns-2 returns-3)

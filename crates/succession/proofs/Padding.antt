@@ -1,0 +1,96 @@
+-- A word under construction in 51 places, with zeros after it: one item more, and the least way to end written item by item.
+use mathlib.Core.Path.{_≡_, refl, sym, ap, _∙_}
+use mathlib.Core.Logic.{_≢_}
+use mathlib.Core.Bool.{true}
+use mathlib.Core.List.{List, [], _∷_, _++_, append-assoc, append-nil}
+use Prim.Native.Nat.{ℕ, zero, suc, _+_, _-_, _≤_, _<_}
+use native.Mathlib.Numerals.{add-one}
+use native.Mathlib.Omega.{arith}
+use lib.ListN.{length, set, drop, replicate, length-append}
+use lib.Seq.{set-append-seam}
+use lib.Dec.{leb}
+use Rattle.lists.specs.Lists.{pick}
+use Rattle.lists.proofs.Tests.{le-true}
+use Rattle.lists.proofs.Lists.{length-1}
+use Rattle.succession.specs.declared.Level.{Level}
+use Rattle.succession.specs.declared.Held.{Held}
+use Rattle.succession.specs.Succession.{after, ends, leads, lead, ending, padded, held}
+use Rattle.succession.proofs.Levels.{leads-less}
+use Rattle.succession.proofs.Events.{Leads, lead-least}
+use Rattle.succession.proofs.Endings.{ending-step, ending-0}
+
+pub padded-more : (p : List ℕ) (x : ℕ) → length p < 51 → set (padded p) (length p) x ≡ padded (p ++ (x ∷ []))
+padded-more p x l =
+    let e : 51 - length p ≡ suc (51 - suc (length p)) = omega arith in
+    rw (e, set-append-seam p 0 (replicate (51 - suc (length p)) 0) x, length-1, append-assoc)
+
+drop-zeros : (k n : ℕ) → k ≤ n → drop {A = ℕ} k (replicate n 0) ≡ replicate (n - k) 0
+drop-zeros zero n l = let e : n - 0 ≡ n = omega arith in rw e
+drop-zeros (suc k) zero l = absurd (omega arith)
+drop-zeros (suc k) (suc n) l = let e : suc n - suc k ≡ n - k = omega arith in rw e (drop-zeros k n (omega arith))
+
+-- a beginning filled into zeros
+pub padded-over : (b items : List ℕ) → length b ≤ 51 → items ≡ pick (leb (length b) 51) (b ++ drop (length b) (replicate 51 0)) (replicate 51 0) → items ≡ padded b
+padded-over b items l e = e ∙ rw (le-true (length b) 51 l, drop-zeros (length b) 51 l)
+
+-- one item and then a list after it
+pub padded-both : (p v items : List ℕ) (x length′ : ℕ) → (items ≡ padded ((p ++ (x ∷ [])) ++ v)) × (length′ ≡ length ((p ++ (x ∷ [])) ++ v)) → (items ≡ padded (p ++ (x ∷ v))) × (length′ ≡ length (p ++ (x ∷ v)))
+padded-both p v items x length′ r = let e = append-assoc p (x ∷ []) v in (r .0 ∙ ap padded e, r .1 ∙ ap length e)
+
+pub held-by : (w items : List ℕ) (length′ : ℕ) → (items ≡ padded w) × (length′ ≡ length w) → _≡_ {A = Held} record { length = length′; items = items } (held w)
+held-by w items length′ r = rw (r .0, r .1)
+
+-- the items hold q, whose least ending from h and f on is the least ending of p from h₀ and f₀ on
+pub record Wrote (p : List ℕ) (h₀ f₀ : ℕ) (items : List ℕ) (i h f : ℕ) : Type 0 where
+  pub word : List ℕ
+  pub holds : items ≡ padded word
+  pub long : i ≡ length word
+  pub goal : word ++ ending h f ≡ p ++ ending h₀ f₀
+
+pub wrote-none : (p items : List ℕ) (i h f : ℕ) → items ≡ padded p → i ≡ length p → Wrote p h f items i h f
+wrote-none p items i h f e l = record { word = p; holds = e; long = l; goal = refl }
+
+pub wrote-all : (p : List ℕ) (h₀ f₀ : ℕ) (items : List ℕ) (i h f : ℕ) → h ≡ 0 → Wrote p h₀ f₀ items i h f → (items ≡ padded (p ++ ending h₀ f₀)) × (i ≡ length (p ++ ending h₀ f₀))
+wrote-all p h₀ f₀ items i h f z W = (W .holds ∙ ap padded e, W .long ∙ ap length e)
+  where
+    e : W .word ≡ p ++ ending h₀ f₀
+    e = rw (z, ending-0, append-nil) at (W .goal)
+
+-- a level that ends, with room for the ending
+pub record Ends (i h f : ℕ) : Type 0 where
+  pub ended : ends h f ≡ true
+  pub small : h + f ≤ 50
+  pub room : i + length (ending h f) ≤ 51
+
+module _ (i f : ℕ) where
+  ends-lead : (h : ℕ) → h ≢ 0 → ends h f ≡ true → Leads h f (lead h f)
+  ends-lead zero n q = absurd (n refl)
+  ends-lead (suc h) n q = lead-least h f q
+
+  ending-lead : (h : ℕ) → h ≢ 0 → ends h f ≡ true → ending h f ≡ lead h f ∷ ending (after h f (lead h f) .height) (after h f (lead h f) .free)
+  ending-lead zero n q = absurd (n refl)
+  ending-lead (suc h) n q = ending-step h f q
+
+  module _ (h : ℕ) (n : h ≢ 0) (E : Ends i h f) where
+    pub ends-room : i < 51
+    ends-room = let r = E .room in let e = ap length (ending-lead h n (E .ended)) in omega arith
+
+    module _ (e : ℕ) (d : e ≡ lead h f) (l : Level) (q : l ≡ after h f e) where
+      pub ends-less : l .height + l .free < h + f
+      ends-less = rw (q, d) (leads-less h f (lead h f) (ends-lead h n (E .ended) .ok))
+
+      pub ends-more : Ends (i + 1) (l .height) (l .free)
+      unfolding leads
+      ends-more = record {
+        ended = rw (q, d) (ends-lead h n (E .ended) .ok);
+        small = let z = ends-less in let s = E .small in omega arith;
+        room = let r = E .room in let z = ap length (ending-lead h n (E .ended)) in rw (q, d) (omega arith);
+      }
+
+      pub wrote-more : (p : List ℕ) (h₀ f₀ : ℕ) (items : List ℕ) → Wrote p h₀ f₀ items i h f → Wrote p h₀ f₀ (set items i e) (i + 1) (l .height) (l .free)
+      wrote-more p h₀ f₀ items W = record {
+        word = W .word ++ (e ∷ []);
+        holds = rw (W .holds, W .long) (padded-more (W .word) e (let r = ends-room in let z = W .long in omega arith));
+        long = rw length-1 (let z = W .long in omega arith);
+        goal = rw (append-assoc, q, d) (rw (ending-lead h n (E .ended)) at (W .goal));
+      }
