@@ -1,16 +1,16 @@
 -- A word that is held in 51 places: its beginning is the word, and what is written from it is the diagram that it spells, the word and the run.
-use mathlib.Core.Path.{_≡_, refl, sym, ap, _∙_}
+use mathlib.Core.Path.{_≡_, ap, _∙_}
 use mathlib.Core.Logic.{_⊎_, inl, inr}
 use mathlib.Core.Option.{some}
-use mathlib.Core.List.{List, [], _∷_, _++_}
-use Prim.Native.Nat.{ℕ, zero, suc, _+_, _-_, _≤_, _<_}
+use mathlib.Core.List.{List, _++_}
+use Prim.Native.Nat.{ℕ, suc, _-_, _≤_, _<_}
 use native.Mathlib.Omega.{arith}
 use lib.Dec.{leb}
 use lib.ListN.{length, take, drop, replicate, length-append}
 use lib.Seq.{take-append-seam}
 use Rattle.lists.specs.Lists.{pick}
 use Rattle.lists.proofs.Tests.{lt?, le-true}
-use Rattle.words.specs.Word.{Pair, spell, Spells}
+use Rattle.words.specs.Word.{spell, Spells}
 use Rattle.words.specs.Shape.{Word}
 use Rattle.words.specs.Outputs.{over, Short}
 use Rattle.words.proofs.Shape.{word-spells, word-length}

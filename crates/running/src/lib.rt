@@ -1,5 +1,6 @@
 // A run: the diagrams of a size one after another, each found from the one before. Beginning refuses 31. A step refuses 34, a run that
 // is neither fresh, nor at a diagram, nor finished; a finished run answers "end"; then 9, an output list that is short.
+use diagrams::Diagram;
 use lists::fill;
 use succession::Held;
 use succession::following;
@@ -59,25 +60,29 @@ fn empty(size: u64, stage: u64) -> Run
     }
 }
 
+// Whether diagrams of this size are listed.
+fn listed(n: u64) -> bool
+    ensures { λ r. ⌜ ((r ≡ true → Edge 50 n) × (r ≡ false → ¬ Edge 50 n)) ⌝ }
+{
+    if n < 1 {
+        return false;
+    }
+    n as usize <= Diagram::MAX_LISTED
+}
+
 // A run of size n, before its first diagram.
 pub fn begin(n: u64) -> Begun
     ensures { λ r. ⌜ Begins n (r .run) (r .answer) ⌝ }
 {
-    if n < 1 {
+    if listed(n) {
         return Begun {
-            answer: Beginning::Refused(31),
-            run: empty(0, 0),
-        };
-    }
-    if 50 < n {
-        return Begun {
-            answer: Beginning::Refused(31),
-            run: empty(0, 0),
+            answer: Beginning::Begun,
+            run: empty(n, 0),
         };
     }
     Begun {
-        answer: Beginning::Begun,
-        run: empty(n, 0),
+        answer: Beginning::Refused(31),
+        run: empty(0, 0),
     }
 }
 
@@ -113,10 +118,7 @@ fn staged(word: &[u16], stage: u64, n: u16) -> bool
 fn sound(run: Run) -> bool
     ensures { λ r. ⌜ ((r ≡ true → Sound run) × (r ≡ false → ¬ Sound run)) ⌝ }
 {
-    if run.size < 1 {
-        return false;
-    }
-    if 50 < run.size {
+    if !listed(run.size) {
         return false;
     }
     if 51 < run.length {

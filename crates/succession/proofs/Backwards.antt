@@ -1,6 +1,6 @@
 -- Reading a word and reading it backwards: the level after some items, the level before an item, and what follows when an item is raised.
 use mathlib.Core.Path.{_≡_, refl, sym, ap, _∙_}
-use mathlib.Core.Logic.{_≢_, _⊎_, inl, inr}
+use mathlib.Core.Logic.{_≢_}
 use mathlib.Core.Bool.{Bool, true, false, true≢false}
 use mathlib.Core.List.{List, [], _∷_, _++_}
 use Prim.Native.Nat.{ℕ, zero, suc, _+_, _-_, _≤_, _<_}
@@ -15,7 +15,7 @@ use Rattle.succession.specs.declared.Level.{Level}
 use Rattle.succession.specs.Succession.{level, stuck, after, ends, leads, above, ending, raised, onward, next}
 use Rattle.succession.specs.Reading.{Read, Raises}
 use Rattle.succession.proofs.Levels.{fits-after, after-fits, after-small, dead}
-use Rattle.succession.proofs.Events.{Seeks, above-least}
+use Rattle.succession.proofs.Events.{above-least}
 use Rattle.succession.proofs.Cases.{level-same}
 
 -- ---- the level before an item

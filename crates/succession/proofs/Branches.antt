@@ -1,7 +1,7 @@
 -- The branches of the code's `following` and `first`: which of them gives the word that follows, and that 51 places are enough for it.
-use mathlib.Core.Path.{_≡_, refl, sym, ap, _∙_}
+use mathlib.Core.Path.{_≡_, refl, ap, _∙_}
 use mathlib.Core.Logic.{_≢_, _⊎_, inl, inr}
-use mathlib.Core.Bool.{Bool, true, false, true≢false}
+use mathlib.Core.Bool.{true, false, true≢false}
 use mathlib.Core.List.{List, [], _∷_, _++_}
 use Prim.Native.Nat.{ℕ, zero, suc, _+_, _≤_, _<_}
 use native.Mathlib.Numerals.{add-one}
@@ -10,7 +10,7 @@ use lib.ListN.{length, getD, take, length-append}
 use lib.Seq.{length-take-le}
 use Rattle.words.specs.Shape.{Word}
 use Rattle.words.proofs.Shape.{word-length}
-use Rattle.succession.specs.Succession.{start, ends, ending, raised, onward, next, first, root-above, following}
+use Rattle.succession.specs.Succession.{start, ends, ending, raised, onward, first, root-above, following}
 use Rattle.succession.specs.Reading.{Raises}
 use Rattle.succession.proofs.Levels.{start-word}
 use Rattle.succession.proofs.Endings.{ending-least}

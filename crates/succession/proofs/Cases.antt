@@ -1,10 +1,10 @@
 -- The clauses of `after`, `start` and `ends` in the code's own terms: by tests and differences instead of successors.
-use mathlib.Core.Path.{_≡_, refl, sym}
+use mathlib.Core.Path.{_≡_, refl}
 use mathlib.Core.Logic.{_≢_}
-use mathlib.Core.Bool.{true, false, not}
+use mathlib.Core.Bool.{true, not}
 use Prim.Native.Nat.{ℕ, zero, suc, _+_, _-_, _≤_, _<_}
 use native.Mathlib.Omega.{arith}
-use lib.Dec.{eqb, ltb}
+use lib.Dec.{eqb}
 use Rattle.lists.proofs.Tests.{lt-true, lt-false, eqb-ne}
 use Rattle.succession.specs.Succession.{level, stuck, after, start, ends}
 

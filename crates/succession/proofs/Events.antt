@@ -1,15 +1,14 @@
 -- `above` and `lead` find the least event that leads to an end: F, B and the first jump are tried in order, and no jump leads on where
 -- the first does not.
-use mathlib.Core.Path.{_≡_, refl, sym, ap, _∙_}
+use mathlib.Core.Path.{_≡_, refl, sym, _∙_}
 use mathlib.Core.Logic.{_≢_, _⊎_, inl, inr}
 use mathlib.Core.Bool.{Bool, true, false, true≢false}
-use Prim.Native.Nat.{ℕ, zero, suc, _+_, _≤_, _<_}
+use Prim.Native.Nat.{ℕ, zero, suc, _≤_, _<_}
 use native.Mathlib.Omega.{arith}
 use lib.Dec.{ltb}
 use Rattle.lists.specs.Lists.{pick}
-use Rattle.lists.proofs.Tests.{lt?, lt-true, lt-false, same?, both-true}
-use Rattle.words.specs.Shape.{pre, less1, less3}
-use Rattle.succession.specs.Succession.{stuck, after, start, ends, leads, jump, better, above, lead, root-above}
+use Rattle.lists.proofs.Tests.{lt?, lt-true, lt-false, same?}
+use Rattle.succession.specs.Succession.{start, ends, leads, jump, above, lead, root-above}
 
 -- e is the least number above x, from k on, that passes the test t; 0 where there is none
 pub record Seeks (t : ℕ → Bool) (x k e : ℕ) : Type 0 where

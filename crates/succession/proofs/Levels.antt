@@ -1,6 +1,5 @@
 -- Levels: an item that can be read leads to the level of what fits after it, and `ends` tells whether anything does.
-use mathlib.Core.Path.{_≡_, refl, sym, ap, _∙_}
-use mathlib.Core.Logic.{_⊎_, inl, inr}
+use mathlib.Core.Path.{_≡_, refl, sym}
 use mathlib.Core.Bool.{Bool, true, false, true≢false}
 use mathlib.Core.List.{List, [], _∷_}
 use Prim.Native.Nat.{ℕ, zero, suc, _+_, _≤_, _<_}
@@ -8,8 +7,8 @@ use native.Mathlib.Nat.{not-suc-le-zero}
 use native.Mathlib.Omega.{arith}
 use lib.Dec.{ltb}
 use Rattle.lists.specs.Lists.{pick}
-use Rattle.lists.proofs.Tests.{lt?, lt-true, lt-false, ltb-true}
-use Rattle.words.specs.Shape.{pre, less1, less3, Fits, Word}
+use Rattle.lists.proofs.Tests.{lt-true, ltb-true}
+use Rattle.words.specs.Shape.{pre, Fits, Word}
 use Rattle.counting.proofs.Tails.{pre-le}
 use Rattle.succession.specs.declared.Level.{Level}
 use Rattle.succession.specs.Succession.{level, stuck, after, start, ends, leads}

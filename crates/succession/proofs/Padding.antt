@@ -1,12 +1,11 @@
 -- A word under construction in 51 places, with zeros after it: one item more, and the least way to end written item by item.
-use mathlib.Core.Path.{_≡_, refl, sym, ap, _∙_}
+use mathlib.Core.Path.{_≡_, refl, ap, _∙_}
 use mathlib.Core.Logic.{_≢_}
 use mathlib.Core.Bool.{true}
 use mathlib.Core.List.{List, [], _∷_, _++_, append-assoc, append-nil}
 use Prim.Native.Nat.{ℕ, zero, suc, _+_, _-_, _≤_, _<_}
-use native.Mathlib.Numerals.{add-one}
 use native.Mathlib.Omega.{arith}
-use lib.ListN.{length, set, drop, replicate, length-append}
+use lib.ListN.{length, set, drop, replicate}
 use lib.Seq.{set-append-seam}
 use lib.Dec.{leb}
 use Rattle.lists.specs.Lists.{pick}

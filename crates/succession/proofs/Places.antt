@@ -1,20 +1,19 @@
 -- `following` goes from position to position: from the word at a position to the one at the next. The listing is sorted, holds exactly the
 -- words of its size, and so what follows in dictionary order stands at the next place.
-use mathlib.Core.Path.{_≡_, refl, sym, ap, _∙_}
+use mathlib.Core.Path.{_≡_, refl, sym}
 use mathlib.Core.Logic.{_≢_, _⊎_, inl, inr}
 use mathlib.Core.List.{List, [], _∷_, List·Memᴰ, List·Memᴰ·not-nil, List·Memᴰ·cases-cons}
-use Prim.Native.Nat.{ℕ, zero, suc, _+_, _≤_, _<_}
+use Prim.Native.Nat.{ℕ, zero, suc, _≤_, _<_}
 use native.Mathlib.Nat.{not-suc-le-zero, le-of-suc-le-suc}
 use native.Mathlib.Omega.{arith}
 use lib.ListN.{length, getD, List·getD-eq-default}
 use Rattle.lists.specs.Lists.{All}
-use Rattle.lists.proofs.Lists.{all-map}
 use Rattle.lists.proofs.Tests.{lt?, same?}
 use Rattle.words.specs.Order.{Before}
 use Rattle.words.specs.Shape.{Word}
 use Rattle.words.proofs.Order.{before-irrefl, before-antisym}
 use Rattle.counting.specs.Listing.{listing, count, Sorted}
-use Rattle.counting.specs.Position.{wordAt, nth}
+use Rattle.counting.specs.Position.{wordAt}
 use Rattle.counting.proofs.Listing.{listing-sound, listing-complete, listing-sorted}
 use Rattle.succession.specs.Succession.{first, following}
 use Rattle.succession.proofs.Follows.{Follows, cons-not, words-follow, first-follows, first-not}

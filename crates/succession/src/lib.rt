@@ -313,7 +313,7 @@ fn rooted(n: u16, root: u16) -> Held
 }
 
 // The word with an item raised, and the least way to end after that.
-fn raised(word: &[u16], place: usize, event: u16, height: u16, free: u16) -> Held
+fn raise_at(word: &[u16], place: usize, event: u16, height: u16, free: u16) -> Held
     requires { ⌜ (place ≤ length (now word)) × (place + 1 + length (ending height free) ≤ 51) × (ends height free ≡ true) × (height + free ≤ 50) ⌝ }
     ensures { λ r. ⌜ r ≡ held (take place (now (word .entry)) ++ (event ∷ ending height free)) ⌝ }
 {
@@ -345,7 +345,7 @@ pub fn following(word: &[u16], n: u16) -> Held
     }
     let r = last_raise(&word[1..]);
     if 0 < r.event {
-        return raised(word, r.place + 1, r.event, r.height, r.free);
+        return raise_at(word, r.place + 1, r.event, r.height, r.free);
     }
     if word[0] == 0 {
         if 3 <= n {

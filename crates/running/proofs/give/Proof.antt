@@ -1,5 +1,6 @@
+-- `give` meets its contract: what is held is the word, so `fill` writes the word and `write_diagram` the diagram that it spells.
 use borrow.Author.Needs.{needs}
-use mathlib.Core.Path.{_≡_, sym, ap}
+use mathlib.Core.Path.{sym, ap}
 use Prim.Native.Nat.{_≤_}
 use native.Mathlib.Omega.{arith}
 use lib.ListN.{length}
@@ -9,35 +10,25 @@ use Rattle.running.specs.declared.Stepping.the-variants as stepping
 use Rattle.running.proofs.Giving.{long-enough, held-length, held-small, held-within, held-spells, held-diagram, held-at, held-over}
 use Rattle.running.proofs.give.Statement.{statement}
 use Rattle.running.proofs.give.Tie as tie
-use Rattle.running.proofs.give.Reads as reads
-use Rattle.running.proofs.give.Lts as lts
-use Rattle.lists.proofs.fill.Reads as fill-reads
-use Rattle.writing.proofs.write_diagram.Reads as write-diagram-reads
 
 within : (c : tie.Start) → c .args .next .length ≤ length (c .args .next .items)
 within c = held-within (c .args .size) (c .pre .1 .0) (c .args .next) (c .pre .1 .1) (c .pre .1 .2)
 
--- src/lib.rt:153:16
 array-share-prefix-items : tie.Need-array-share-prefix-items
 array-share-prefix-items c = within (c .before .before .before .before .before)
 
--- src/lib.rt:153:16
 slice-aggregate-fill : tie.Need-slice-aggregate-fill
 slice-aggregate-fill c = sym (length-take-le _ _ (within (c .before .before .before .before .before .before)))
 
--- src/lib.rt:153:5
 fill-requires : tie.Need-fill-requires
 fill-requires c κs = search needs
 
--- src/lib.rt:154:19
 array-share-prefix-items-2 : tie.Need-array-share-prefix-items-2
 array-share-prefix-items-2 c = within (c .before .before .before .before .before .before .before .before .before)
 
--- src/lib.rt:154:19
 slice-aggregate-write-diagram : tie.Need-slice-aggregate-write-diagram
 slice-aggregate-write-diagram c = sym (length-take-le _ _ (within (c .before .before .before .before .before .before .before .before .before .before)))
 
--- src/lib.rt:154:5
 write-diagram-requires : tie.Need-write-diagram-requires
 write-diagram-requires c κs =
     let d = c .before .before .before .before .before .before .before .before .before .before .before .before in
@@ -45,26 +36,21 @@ write-diagram-requires c κs =
     let l = long-enough (d .args .size) (d .args .s0 .now) (d .args .s1 .now) (d .args .word .now) (p .2) in
     (d .args .size, held-spells (d .args .size) (p .1 .0) (d .args .next) (p .1 .1) (p .1 .2), p .0, l .0, l .1)
 
--- src/lib.rt:156:34
 cast-t19 : tie.Need-cast-t19
 cast-t19 c =
     let d = c .before .before .before .before .before .before .before .before .before .before .before .before .before .before .before .before .before in
     let s = held-small (d .args .size) (d .pre .1 .0) (d .args .next) (d .pre .1 .1) (d .pre .1 .2) in
     record { fits = omega arith }
 
--- src/lib.rt:147:1
 same-length : tie.Need-same-length
 same-length c = search needs
 
--- src/lib.rt:147:1
 same-length-2 : tie.Need-same-length-2
 same-length-2 c = search needs
 
--- src/lib.rt:147:1
 same-length-3 : tie.Need-same-length-3
 same-length-3 c = search needs
 
--- src/lib.rt:147:1
 returns : tie.Need-returns
 returns c = λ w e a.
     let d = c .before .before .before .before .before .before .before .before .before .before .before .before .before .before .before .before .before in

@@ -1,3 +1,4 @@
+-- `next_word` meets its contract: the first items of a sound run are its word.
 use borrow.Author.Needs.{needs}
 use mathlib.Core.Path.{_≡_, sym}
 use Prim.Native.Nat.{_≤_}
@@ -7,9 +8,6 @@ use lib.Seq.{length-take-le}
 use Rattle.running.proofs.Soundness.{staged-word, sound-length, sound-staged, sound-word}
 use Rattle.running.proofs.next_word.Statement.{statement}
 use Rattle.running.proofs.next_word.Tie as tie
-use Rattle.running.proofs.next_word.Reads as reads
-use Rattle.running.proofs.next_word.Lts as lts
-use Rattle.succession.proofs.following.Reads as following-reads
 
 -- a run has 51 items
 long : (c : tie.Start) → length (c .args .run .items) ≡ 51
@@ -18,25 +16,20 @@ long c = search needs
 within : (c : tie.Start) → c .args .run .length ≤ length (c .args .run .items)
 within c = let l = sound-length (c .args .run) (long c) (c .pre) in let n = long c in omega arith
 
--- src/lib.rt:153:15
 array-share-prefix-items : tie.Need-array-share-prefix-items
 array-share-prefix-items c = within (c .before)
 
--- src/lib.rt:153:15
 slice-aggregate-following : tie.Need-slice-aggregate-following
 slice-aggregate-following c = sym (length-take-le _ _ (within (c .before .before)))
 
--- src/lib.rt:153:33
 cast-following : tie.Need-cast-following
 cast-following c = search needs
 
--- src/lib.rt:153:5
 following-requires : tie.Need-following-requires
 following-requires c κs =
     let d = c .before .before .before in
     (d .pre .sized, staged-word (d .args .run .stage) _ _ (sound-staged (d .args .run) (long d) (d .pre)))
 
--- src/lib.rt:147:1
 returns : tie.Need-returns
 returns c = λ S. rw (sound-word _ (long (c .before .before .before .before)) S) at (c .following .ensures)
 

@@ -1,21 +1,17 @@
+-- `short` meets its contract: a test for each list.
 use native.Mathlib.Omega.{arith}
 use borrow.Author.Tests.{leb-true, leb-false}
 use mathlib.Core.Logic.{inl, inr, ⊎-elim}
 use mathlib.Core.Bool.{true≢false}
 use Rattle.running.proofs.short.Statement.{statement}
 use Rattle.running.proofs.short.Tie as tie
-use Rattle.running.proofs.short.Reads as reads
-use Rattle.running.proofs.short.Lts as lts
 
--- src/lib.rt:130:9
 returns : tie.Need-returns
 returns c = (λ e. inl (c .if1 .taken), λ e. absurd (true≢false e))
 
--- src/lib.rt:133:9
 returns-2 : tie.Need-returns-2
 returns-2 c = (λ e. inr (inl (c .if2 .taken)), λ e. absurd (true≢false e))
 
--- src/lib.rt:126:1
 returns-3 : tie.Need-returns-3
 returns-3 c = (
   λ e. inr (inr (let l = leb-true (c .before .before .args .word) (c .before .before .args .n) e in omega arith)),

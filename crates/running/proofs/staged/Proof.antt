@@ -1,3 +1,4 @@
+-- `staged` meets its contract: stage 1 goes with a word, 0 and 2 with none.
 use borrow.Author.Needs.{needs}
 use mathlib.Core.Path.{sym}
 use lib.ListN.{length}
@@ -8,27 +9,20 @@ use mathlib.Core.Bool.{true≢false}
 use native.Mathlib.Omega.{arith}
 use Rattle.running.proofs.staged.Statement.{statement}
 use Rattle.running.proofs.staged.Tie as tie
-use Rattle.running.proofs.staged.Reads as reads
-use Rattle.running.proofs.staged.Lts as lts
-use Rattle.succession.proofs.is_word.Reads as is-word-reads
 
--- src/lib.rt:104:9
 is-word-requires : tie.Need-is-word-requires
 is-word-requires c κs = search needs
 
--- src/lib.rt:104:9
 returns : tie.Need-returns
 returns c =
     let a = c .before .before .before .args in
     (λ e. inl (c .before .if1 .taken, c .is-word .ensures .0 e), λ e s. c .is-word .ensures .1 e (staged-at (a .stage) (a .n) (a .word .now) (c .before .if1 .taken) s))
 
--- src/lib.rt:107:9
 returns-2 : tie.Need-returns-2
 returns-2 c =
     let a = c .before .before .before .args in
     (λ e. absurd (true≢false (sym e)), λ e s. let l = staged-few (a .stage) (a .n) (a .word .now) s in omega arith)
 
--- src/lib.rt:99:1
 returns-3 : tie.Need-returns-3
 returns-3 c =
     let a = c .before .before .before .args in

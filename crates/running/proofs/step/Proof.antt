@@ -1,3 +1,4 @@
+-- `step` meets its contract: each return is a case of `Steps`, by the laws of `Standing`.
 use borrow.Author.Needs.{needs}
 use mathlib.Core.Path.{_≡_, refl, sym, ap, _∙_}
 use mathlib.Core.Logic.{_≢_}
@@ -12,13 +13,6 @@ use Rattle.running.specs.Sound.{Sound}
 use Rattle.running.proofs.Standing.{step-34, step-over, step-9, step-end, step-next, step-gives}
 use Rattle.running.proofs.step.Statement.{statement}
 use Rattle.running.proofs.step.Tie as tie
-use Rattle.running.proofs.step.Reads as reads
-use Rattle.running.proofs.step.Lts as lts
-use Rattle.running.proofs.empty.Reads as empty-reads
-use Rattle.running.proofs.give.Reads as give-reads
-use Rattle.running.proofs.next_word.Reads as next-word-reads
-use Rattle.running.proofs.short.Reads as short-reads
-use Rattle.running.proofs.sound.Reads as sound-reads
 
 untouched : (a0 a1 aw : List ℕ) → Untouched a0 a1 aw a0 a1 aw
 untouched a0 a1 aw = record { s0-same = refl; s1-same = refl; word-same = refl }
@@ -39,41 +33,33 @@ module _ (c : tie.After-next-word) where
   long : c .next-word .result .length ≡ length (following (c .before .before .before .before .before .before .before .before .before .before .args .run .size) (S .word))
   long = ap (λ (h : Held). h .length) (c .next-word .ensures S)
 
--- src/lib.rt:180:9
 sound-requires : tie.Need-sound-requires
 sound-requires c κs = search needs
 
--- src/lib.rt:181:9
 returns : tie.Need-returns
 returns c =
     let a = c .before .before .before .before .before .args in
     (step-34 (a .run) (a .s0 .now) (a .s1 .now) (a .word .now) (c .before .sound .ensures .1 (not-true _ (c .if1 .taken))), refl, untouched (a .s0 .now) (a .s1 .now) (a .word .now))
 
--- src/lib.rt:187:9
 returns-2 : tie.Need-returns-2
 returns-2 c =
     let a = c .before .before .before .before .before .before .before .args in
     (step-over (a .run) (a .s0 .now) (a .s1 .now) (a .word .now) (is-sound (c .before .before)) (c .if2 .taken), untouched (a .s0 .now) (a .s1 .now) (a .word .now))
 
--- src/lib.rt:192:8
 short-requires : tie.Need-short-requires
 short-requires c κs = search needs
 
--- src/lib.rt:193:9
 returns-3 : tie.Need-returns-3
 returns-3 c =
     let a = c .before .before .before .before .before .before .before .before .before .args in
     (step-9 (a .run) (a .s0 .now) (a .s1 .now) (a .word .now) (is-sound (c .before .before .before .before)) (c .before .before .if2 .left) (c .before .short .ensures .0 (c .if3 .taken)), refl, untouched (a .s0 .now) (a .s1 .now) (a .word .now))
 
--- src/lib.rt:198:9
 next-word-requires : tie.Need-next-word-requires
 next-word-requires c κs = is-sound (c .before .before .before .before)
 
--- src/lib.rt:202:18
 empty-requires : tie.Need-empty-requires
 empty-requires c κs = search needs
 
--- src/lib.rt:200:9
 returns-4 : tie.Need-returns-4
 returns-4 c =
     let d = c .before .before .before in
@@ -83,7 +69,6 @@ returns-4 c =
       untouched (a .s0 .now) (a .s1 .now) (a .word .now),
     )
 
--- src/lib.rt:205:5
 give-requires : tie.Need-give-requires
 give-requires c κs =
     let d = c .before .before .before .before .before in
@@ -91,19 +76,15 @@ give-requires c κs =
     let s = S d in
     (s .sized .1, (following (a .run .size) (s .word), d .next-word .ensures s, step-next (a .run) (a .s0 .now) (a .s1 .now) (a .word .now) s (d .before .before .before .if2 .left) (not-short (d .before)) (λ z. c .before .before .before .if4 .left (long d ∙ z))), not-short (d .before))
 
--- src/lib.rt:177:1
 same-length : tie.Need-same-length
 same-length c = search needs
 
--- src/lib.rt:177:1
 same-length-2 : tie.Need-same-length-2
 same-length-2 c = search needs
 
--- src/lib.rt:177:1
 same-length-3 : tie.Need-same-length-3
 same-length-3 c = search needs
 
--- src/lib.rt:177:1
 returns-5 : tie.Need-returns-5
 returns-5 c =
     let g = c .before .before .before .before .before .before in

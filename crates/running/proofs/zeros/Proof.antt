@@ -1,3 +1,4 @@
+-- `zeros` meets its contract. Invariant: every item before i is 0.
 use mathlib.Core.Path.{_≡_, sym}
 use mathlib.Core.Bool.{true≢false}
 use Prim.Native.Nat.{ℕ, _<_, _≤_, _-_}
@@ -8,8 +9,6 @@ use borrow.Author.Needs.{needs}
 use Rattle.running.proofs.Blanks.{zeros-all, zeros-at}
 use Rattle.running.proofs.zeros.Statement.{statement}
 use Rattle.running.proofs.zeros.Tie as tie
-use Rattle.running.proofs.zeros.Reads as reads
-use Rattle.running.proofs.zeros.Lts as lts
 
 abbrev Inv-loop : tie.InvT-loop
 Inv-loop items i₀ i = (i ≤ length items) × ((k : ℕ) → k < i → getD items k 0 ≡ 0)
@@ -17,38 +16,30 @@ Inv-loop items i₀ i = (i ≤ length items) × ((k : ℕ) → k < i → getD it
 abbrev μ-loop : tie.MeasureT-loop
 μ-loop items i₀ i = length items - i
 
--- src/lib.rt:89:5
 loop-holds : tie.Need-loop-holds Inv-loop μ-loop
 loop-holds c = (search needs, λ k l. absurd (omega arith))
 
--- src/lib.rt:90:12
 mul-if1 : tie.Need-mul-if1 Inv-loop μ-loop
 mul-if1 c = search needs
 
--- src/lib.rt:90:12
 shared-slice-read-if1 : tie.Need-shared-slice-read-if1 Inv-loop μ-loop
 shared-slice-read-if1 c = search needs
 
--- src/lib.rt:91:13
 returns : tie.Need-returns Inv-loop μ-loop
 returns c =
     let items = c .before .before .before .before .args .items .now in
     let i = c .before .before .before .loop .i in
     (λ e. absurd (true≢false (sym e)), λ e z. c .if1 .taken (zeros-at (length items) i items z (omega arith)))
 
--- src/lib.rt:93:9
 add-i : tie.Need-add-i Inv-loop μ-loop
 add-i c = search needs
 
--- src/lib.rt:89:5
 loop-less : tie.Need-loop-less Inv-loop μ-loop
 loop-less c = search needs
 
--- src/lib.rt:89:5
 loop-again : tie.Need-loop-again Inv-loop μ-loop
 loop-again c = (search needs, below-more _ _ (c .before .before .before .loop .inv .1) (c .if1 .left))
 
--- src/lib.rt:85:1
 returns-2 : tie.Need-returns-2 Inv-loop μ-loop
 returns-2 c = (λ e. zeros-all _ (λ i l. c .before .loop .inv .1 i (omega arith)), λ e. absurd (true≢false e))
 

@@ -1,3 +1,5 @@
+-- `end_word` meets its contract. Invariant: the items written so far, with the least ending from the level reached, are what is to be
+-- written. Each item lowers the sum of the height and the free labels, the measure.
 use mathlib.Core.Path.{_≡_}
 use mathlib.Core.List.{List}
 use Prim.Native.Nat.{ℕ, _+_}
@@ -8,10 +10,6 @@ use Rattle.succession.specs.Succession.{padded}
 use Rattle.succession.proofs.Padding.{Ends, Wrote, wrote-none, wrote-all, ends-room, ends-less, ends-more, wrote-more}
 use Rattle.succession.proofs.end_word.Statement.{statement}
 use Rattle.succession.proofs.end_word.Tie as tie
-use Rattle.succession.proofs.end_word.Reads as reads
-use Rattle.succession.proofs.end_word.Lts as lts
-use Rattle.succession.proofs.after.Reads as after-reads
-use Rattle.succession.proofs.lead.Reads as lead-reads
 
 abbrev Inv-loop : tie.InvT-loop
 Inv-loop items₀ at height free i₀ h₀ f₀ items i h f = Ends i h f × ((p : List ℕ) → items₀ ≡ padded p → at ≡ length p → Wrote p height free items i h f)
@@ -19,42 +17,33 @@ Inv-loop items₀ at height free i₀ h₀ f₀ items i h f = Ends i h f × ((p 
 abbrev μ-loop : tie.MeasureT-loop
 μ-loop items₀ at height free i₀ h₀ f₀ items i h f = h + f
 
--- src/lib.rt:283:5
 loop-holds : tie.Need-loop-holds Inv-loop μ-loop
 loop-holds c = (record { ended = c .pre .4; small = c .pre .5; room = c .pre .3 }, λ p e l. wrote-none p _ _ _ _ e l)
 
--- src/lib.rt:284:13
 lead-requires : tie.Need-lead-requires Inv-loop μ-loop
 lead-requires c κs = c .before .loop .inv .0 .small
 
--- src/lib.rt:285:9
 mul-items : tie.Need-mul-items Inv-loop μ-loop
 mul-items c = search needs
 
--- src/lib.rt:285:9
 element-write-items : tie.Need-element-write-items Inv-loop μ-loop
 element-write-items c = ends-room _ _ _ (c .before .loop-test .taken) (c .before .before .loop .inv .0)
 
--- src/lib.rt:286:13
 after-requires : tie.Need-after-requires Inv-loop μ-loop
 after-requires c κs = c .before .before .loop .inv .0 .small
 
--- src/lib.rt:289:9
 add-i : tie.Need-add-i Inv-loop μ-loop
 add-i c = let r = ends-room _ _ _ (c .before .before .loop-test .taken) (c .before .before .before .loop .inv .0) in record { fits = omega arith }
 
--- src/lib.rt:283:5
 loop-less : tie.Need-loop-less Inv-loop μ-loop
 loop-less c = ends-less _ _ _ (c .before .before .loop-test .taken) (c .before .before .before .loop .inv .0) _ (c .before .lead .ensures) _ (c .after .ensures)
 
--- src/lib.rt:283:5
 loop-again : tie.Need-loop-again Inv-loop μ-loop
 loop-again c = (
   ends-more _ _ _ (c .before .before .loop-test .taken) (c .before .before .before .loop .inv .0) _ (c .before .lead .ensures) _ (c .after .ensures),
   λ p e l. wrote-more _ _ _ (c .before .before .loop-test .taken) (c .before .before .before .loop .inv .0) _ (c .before .lead .ensures) _ (c .after .ensures) p _ _ _ (c .before .before .before .loop .inv .1 p e l),
 )
 
--- src/lib.rt:276:1
 returns : tie.Need-returns Inv-loop μ-loop
 returns c = λ p e l. wrote-all p _ _ _ _ _ _ (c .loop-test .left) (c .before .loop .inv .1 p e l)
 

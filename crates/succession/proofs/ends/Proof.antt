@@ -1,18 +1,14 @@
+-- `ends` meets its contract: each return is a clause of the definition.
 use Rattle.succession.proofs.Cases.{ends-0, ends-1, ends-more}
 use Rattle.succession.proofs.ends.Statement.{statement}
 use Rattle.succession.proofs.ends.Tie as tie
-use Rattle.succession.proofs.ends.Reads as reads
-use Rattle.succession.proofs.ends.Lts as lts
 
--- src/lib.rt:114:9
 returns : tie.Need-returns
 returns c = ends-0 _ _ (c .if1 .taken)
 
--- src/lib.rt:117:9
 returns-2 : tie.Need-returns-2
 returns-2 c = ends-1 _ _ (c .if2 .taken)
 
--- src/lib.rt:110:1
 returns-3 : tie.Need-returns-3
 returns-3 c = ends-more _ _ (c .before .if1 .left) (c .if2 .left)
 

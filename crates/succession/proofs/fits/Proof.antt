@@ -1,3 +1,4 @@
+-- `fits` meets its contract. Invariant: what is left fits the level reached exactly if the whole fits the first level.
 use Prim.Native.Nat.{_-_}
 use lib.ListN.{length}
 use borrow.Author.Needs.{needs}
@@ -6,9 +7,6 @@ use mathlib.Core.Path.{sym}
 use Rattle.succession.proofs.Forwards.{Forth, forth-more, forth-0, forth-not}
 use Rattle.succession.proofs.fits.Statement.{statement}
 use Rattle.succession.proofs.fits.Tie as tie
-use Rattle.succession.proofs.fits.Reads as reads
-use Rattle.succession.proofs.fits.Lts as lts
-use Rattle.succession.proofs.after.Reads as after-reads
 
 abbrev Inv-loop : tie.InvT-loop
 Inv-loop items height free h₀ f₀ i₀ h f i = Forth height free items i h f
@@ -16,39 +14,30 @@ Inv-loop items height free h₀ f₀ i₀ h f i = Forth height free items i h f
 abbrev μ-loop : tie.MeasureT-loop
 μ-loop items height free h₀ f₀ i₀ h f i = length items - i
 
--- src/lib.rt:218:5
 loop-holds : tie.Need-loop-holds Inv-loop μ-loop
 loop-holds c = record { within = search needs; small = search needs; there = λ a. a; back = λ a. a }
 
--- src/lib.rt:219:29
 mul-after : tie.Need-mul-after Inv-loop μ-loop
 mul-after c = search needs
 
--- src/lib.rt:219:29
 shared-slice-read-after : tie.Need-shared-slice-read-after Inv-loop μ-loop
 shared-slice-read-after c = search needs
 
--- src/lib.rt:219:13
 after-requires : tie.Need-after-requires Inv-loop μ-loop
 after-requires c κs = search needs
 
--- src/lib.rt:222:9
 add-i : tie.Need-add-i Inv-loop μ-loop
 add-i c = search needs
 
--- src/lib.rt:218:5
 loop-less : tie.Need-loop-less Inv-loop μ-loop
 loop-less c = search needs
 
--- src/lib.rt:218:5
 loop-again : tie.Need-loop-again Inv-loop μ-loop
 loop-again c = forth-more _ _ _ _ _ _ (c .before .before .before .loop .inv) (c .after .result) (search needs) (c .after .ensures)
 
--- src/lib.rt:225:9
 returns : tie.Need-returns Inv-loop μ-loop
 returns c = forth-0 _ _ _ _ _ _ (c .before .before .loop .inv) (c .before .loop-test .left) (c .if1 .taken)
 
--- src/lib.rt:211:1
 returns-2 : tie.Need-returns-2 Inv-loop μ-loop
 returns-2 c = (λ e. absurd (true≢false (sym e)), λ e. forth-not _ _ _ _ _ _ (c .before .before .loop .inv) (c .before .loop-test .left) (c .if1 .left))
 

@@ -1,23 +1,18 @@
+-- `following` meets its contract: by `last_raise` an item after the first is raised; where none can be, U becomes T, or the word is the last.
 use borrow.Author.Needs.{needs}
-use mathlib.Core.Path.{_≡_, refl, sym, ap, _∙_}
+use mathlib.Core.Path.{refl}
 use mathlib.Core.Logic.{_≢_, inl, inr}
 use mathlib.Core.List.{List}
 use Prim.Native.Nat.{ℕ, _+_, _≤_}
 use native.Mathlib.Omega.{arith}
 use lib.ListN.{length, getD}
 use Rattle.words.specs.Shape.{Fits, Word}
-use Rattle.succession.specs.Succession.{start, ending, held}
+use Rattle.succession.specs.Succession.{start, ending}
 use Rattle.succession.specs.Reading.{Raises}
 use Rattle.succession.proofs.Forwards.{rest, start-small, word-to-rest}
 use Rattle.succession.proofs.Branches.{word-there, start-T-ends, raised-room, following-first, following-raised, following-rooted, following-none}
 use Rattle.succession.proofs.following.Statement.{statement}
 use Rattle.succession.proofs.following.Tie as tie
-use Rattle.succession.proofs.following.Reads as reads
-use Rattle.succession.proofs.following.Lts as lts
-use Rattle.succession.proofs.first.Reads as first-reads
-use Rattle.succession.proofs.last_raise.Reads as last-raise-reads
-use Rattle.succession.proofs.raised.Reads as raised-reads
-use Rattle.succession.proofs.rooted.Reads as rooted-reads
 
 module _ (c : tie.Else1) where
   abbrev n : ℕ
@@ -44,68 +39,54 @@ room : (c : tie.After-last-raise) → (c .last-raise .result .event ≢ 0) → l
     (r .place + 1 ≤ length (word (c .before .before))) × (r .place + 1 + 1 + length (ending (r .height) (r .free)) ≤ 51)
 room c e = let d = c .before .before in raised-room (n d) _ _ _ _ (word d) (d .before .before .pre .0 .1) (there d) (d .if1 .left) e (raising c)
 
--- src/lib.rt:344:9
 first-requires : tie.Need-first-requires
 first-requires c κs = search needs
 
--- src/lib.rt:344:9
 returns : tie.Need-returns
 returns c = rw (following-first (c .before .before .before .args .n) (c .before .before .before .args .word .now) (c .before .if1 .taken)) (c .first .ensures)
 
--- src/lib.rt:346:24
 sub-last-raise : tie.Need-sub-last-raise
 sub-last-raise c = search needs
 
--- src/lib.rt:346:24
 part-last-raise-start : tie.Need-part-last-raise-start
 part-last-raise-start c = search needs
 
--- src/lib.rt:346:24
 part-last-raise-end : tie.Need-part-last-raise-end
 part-last-raise-end c = search needs
 
--- src/lib.rt:346:9
 last-raise-requires : tie.Need-last-raise-requires
 last-raise-requires c κs = (_, _, fitting (c .before), small (c .before))
 
--- src/lib.rt:348:29
-add-raised : tie.Need-add-raised
-add-raised c = let i = room (c .before .before .before) (λ z. omega arith) in record { fits = omega arith }
+add-raise-at : tie.Need-add-raise-at
+add-raise-at c = let i = room (c .before .before .before) (λ z. omega arith) in record { fits = omega arith }
 
--- src/lib.rt:348:9
-raised-requires : tie.Need-raised-requires
-raised-requires c κs =
+raise-at-requires : tie.Need-raise-at-requires
+raise-at-requires c κs =
     let d = c .before .before .before in
     let i = room d (λ z. omega arith) in
     (i .0, i .1, raising d .ended (λ z. omega arith), raising d .small)
 
--- src/lib.rt:348:9
 returns-2 : tie.Need-returns-2
 returns-2 c =
     let d = c .before .before .before .before in
-    rw (following-raised (n (d .before .before)) _ _ _ _ (word (d .before .before)) (d .before .before .if1 .left) (λ z. omega arith) (raising d)) (c .raised .ensures)
+    rw (following-raised (n (d .before .before)) _ _ _ _ (word (d .before .before)) (d .before .before .if1 .left) (λ z. omega arith) (raising d)) (c .raise-at .ensures)
 
--- src/lib.rt:350:8
 shared-slice-read-if3 : tie.Need-shared-slice-read-if3
 shared-slice-read-if3 c = search needs
 
--- src/lib.rt:352:13
 rooted-requires : tie.Need-rooted-requires
 rooted-requires c κs = (search needs, start-T-ends (n (c .before .before .before .before .before .before .before)) (c .if4 .taken))
 
--- src/lib.rt:352:13
 returns-3 : tie.Need-returns-3
 returns-3 c =
     let d = c .before .before .before .before .before .before in
     rw (following-rooted (n (d .before .before)) _ _ _ _ (omega arith) (word (d .before .before)) (d .before .before .if1 .left) (raising d) (c .before .before .if3 .taken) (c .before .if4 .taken)) (c .rooted .ensures)
 
--- src/lib.rt:339:1
 returns-4 : tie.Need-returns-4
 returns-4 c =
     let d = c .before .before .before .before .before in
     rw (following-none (n (d .before .before)) _ _ _ _ (omega arith) (word (d .before .before)) (d .before .before .if1 .left) (raising d) (inr (c .if4 .left)))
 
--- src/lib.rt:339:1
 returns-5 : tie.Need-returns-5
 returns-5 c =
     let d = c .before .before .before .before in
@@ -121,8 +102,8 @@ following-spec =
     part-last-raise-start
     part-last-raise-end
     last-raise-requires
-    add-raised
-    raised-requires
+    add-raise-at
+    raise-at-requires
     returns-2
     shared-slice-read-if3
     rooted-requires

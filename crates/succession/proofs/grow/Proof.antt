@@ -1,37 +1,26 @@
+-- `grow` meets its contract: the event is one item more, and `end_word` writes the rest.
 use borrow.Author.Needs.{needs}
-use mathlib.Core.Path.{_≡_}
-use mathlib.Core.List.{List, _∷_, [], _++_}
-use Prim.Native.Nat.{ℕ, _+_, _<_}
+use mathlib.Core.List.{_∷_, [], _++_}
 use native.Mathlib.Omega.{arith}
-use lib.ListN.{length, set}
 use Rattle.lists.proofs.Lists.{length-1}
-use Rattle.succession.specs.Succession.{padded}
 use Rattle.succession.proofs.Padding.{padded-more, padded-both}
 use Rattle.succession.proofs.grow.Statement.{statement}
 use Rattle.succession.proofs.grow.Tie as tie
-use Rattle.succession.proofs.grow.Reads as reads
-use Rattle.succession.proofs.grow.Lts as lts
-use Rattle.succession.proofs.end_word.Reads as end-word-reads
 
--- src/lib.rt:300:5
 mul-items : tie.Need-mul-items
 mul-items c = search needs
 
--- src/lib.rt:300:5
 element-write-items : tie.Need-element-write-items
 element-write-items c = search needs
 
--- src/lib.rt:301:21
 add-end-word : tie.Need-add-end-word
 add-end-word c = search needs
 
--- src/lib.rt:301:5
 end-word-requires : tie.Need-end-word-requires
 end-word-requires c κs =
     let p = c .before .pre in
     (p .0 ++ (c .before .args .event ∷ []), rw (p .1, p .2) (padded-more (p .0) (c .before .args .event) (omega arith)), rw length-1 (omega arith), p .3, p .4, p .5)
 
--- src/lib.rt:295:1
 returns : tie.Need-returns
 returns c = λ p e l. padded-both p _ _ _ _ (c .end-word .ensures (p ++ (c .before .before .args .event ∷ [])) (rw (e, l) (padded-more p (c .before .before .args .event) (let r = c .before .before .pre .3 in omega arith))) (rw length-1 (omega arith)))
 

@@ -1,3 +1,4 @@
+-- `is_word` meets its contract: a word is its first item and a rest that fits the level after it.
 use borrow.Author.Needs.{needs}
 use mathlib.Core.Bool.{true≢false}
 use mathlib.Core.Path.{sym}
@@ -5,42 +6,30 @@ use lib.ListN.{getD}
 use Rattle.succession.proofs.Forwards.{start-small, word-to-rest, rest-to-word, empty-not}
 use Rattle.succession.proofs.is_word.Statement.{statement}
 use Rattle.succession.proofs.is_word.Tie as tie
-use Rattle.succession.proofs.is_word.Reads as reads
-use Rattle.succession.proofs.is_word.Lts as lts
-use Rattle.succession.proofs.fits.Reads as fits-reads
-use Rattle.succession.proofs.start.Reads as start-reads
 
--- src/lib.rt:236:9
 returns : tie.Need-returns
 returns c = (λ e. absurd (true≢false (sym e)), λ e a. empty-not (c .before .before .args .n) (c .before .before .args .word .now) (c .if1 .taken) a)
 
--- src/lib.rt:238:22
 shared-slice-read-start : tie.Need-shared-slice-read-start
 shared-slice-read-start c = search needs
 
--- src/lib.rt:238:9
 start-requires : tie.Need-start-requires
 start-requires c κs = search needs
 
--- src/lib.rt:239:10
 sub-fits : tie.Need-sub-fits
 sub-fits c = search needs
 
--- src/lib.rt:239:10
 part-fits-start : tie.Need-part-fits-start
 part-fits-start c = search needs
 
--- src/lib.rt:239:10
 part-fits-end : tie.Need-part-fits-end
 part-fits-end c = search needs
 
--- src/lib.rt:239:5
 fits-requires : tie.Need-fits-requires
 fits-requires c κs =
     let a = c .before .before .before .before .before .args in
     rw (c .before .start .ensures) (start-small (a .n) (getD (a .word .now) 0 0) (search needs))
 
--- src/lib.rt:231:1
 returns-2 : tie.Need-returns-2
 returns-2 c =
     let a = c .before .before .before .before .before .before .args in

@@ -1,19 +1,15 @@
-use mathlib.Core.Path.{_≡_, refl, sym, _∙_}
-use Prim.Native.Nat.{ℕ, suc, _+_, _-_, _≤_}
+-- `last_raise` meets its contract. Invariant: the items before i lead to the level, and no item from i on can be raised; so the first item
+-- on the way back that can be raised is the last of the word.
+use mathlib.Core.Path.{_≡_}
+use Prim.Native.Nat.{ℕ, suc, _+_, _-_, _≤_, _<_}
 use native.Mathlib.Omega.{arith}
 use lib.ListN.{length}
 use borrow.Author.Needs.{needs}
 use mathlib.Core.List.{List}
-use Prim.Native.Nat.{_<_}
 use Rattle.words.specs.Shape.{Fits}
 use Rattle.succession.proofs.Backwards.{Back, back-start, back-read, back-small, back-item, back-more, back-raise, back-none}
 use Rattle.succession.proofs.last_raise.Statement.{statement}
 use Rattle.succession.proofs.last_raise.Tie as tie
-use Rattle.succession.proofs.last_raise.Reads as reads
-use Rattle.succession.proofs.last_raise.Lts as lts
-use Rattle.succession.proofs.above.Reads as above-reads
-use Rattle.succession.proofs.after.Reads as after-reads
-use Rattle.succession.proofs.unread.Reads as unread-reads
 
 abbrev Inv-loop : tie.InvT-loop
 Inv-loop items h₀ f₀ i₀ h f i = (i ≤ length items) × (h + f ≤ 50) × ((H F : ℕ) → Fits H F items → H + F ≤ 50 → Back H F items i h f)
@@ -35,29 +31,23 @@ module _ (c : tie.In-loop Inv-loop μ-loop) where
   back : (H F : ℕ) → Fits H F items → H + F ≤ 50 → Back H F items (suc j) (c .before .loop .h) (c .before .loop .f)
   back H F a s = let e : suc j ≡ c .before .loop .i = omega arith in rw e (c .before .loop .inv .2 H F a s)
 
--- src/lib.rt:250:5
 loop-holds : tie.Need-loop-holds Inv-loop μ-loop
 loop-holds c = (search needs, search needs, λ H F a s. back-start H F _ a)
 
--- src/lib.rt:251:23
 sub-x : tie.Need-sub-x Inv-loop μ-loop
 sub-x c = search needs
 
--- src/lib.rt:251:17
 mul-x : tie.Need-mul-x Inv-loop μ-loop
 mul-x c = search needs
 
--- src/lib.rt:251:17
 shared-slice-read-x : tie.Need-shared-slice-read-x Inv-loop μ-loop
 shared-slice-read-x c = search needs
 
--- src/lib.rt:252:13
 unread-requires : tie.Need-unread-requires Inv-loop μ-loop
 unread-requires c κs =
     let p = c .before .before .before .before .pre in
     (search needs, (_, _, back-read (p .0) (p .1) _ (p .3) _ _ _ (inside (c .before)) (back (c .before) (p .0) (p .1) (p .2) (p .3))))
 
--- src/lib.rt:253:13
 above-requires : tie.Need-above-requires Inv-loop μ-loop
 above-requires c κs =
     let p = c .before .before .before .before .before .pre in
@@ -66,29 +56,23 @@ above-requires c κs =
       back-item (p .0) (p .1) _ (p .3) _ _ _ (inside (c .before .before)) (back (c .before .before) (p .0) (p .1) (p .2) (p .3)),
     )
 
--- src/lib.rt:255:17
 after-requires : tie.Need-after-requires Inv-loop μ-loop
 after-requires c κs =
     let p = c .before .before .before .before .before .before .before .pre in
     back-small (p .0) (p .1) _ (p .3) _ _ _ (inside (c .before .before .before .before)) (back (c .before .before .before .before) (p .0) (p .1) (p .2) (p .3)) _ (c .before .before .unread .ensures)
 
--- src/lib.rt:257:24
 sub-t14 : tie.Need-sub-t14 Inv-loop μ-loop
 sub-t14 c = search needs
 
--- src/lib.rt:256:13
 returns : tie.Need-returns Inv-loop μ-loop
 returns c = λ H F a s. back-raise H F _ s _ _ _ (inside (c .before .before .before .before .before)) (back (c .before .before .before .before .before) H F a s) _ (c .before .before .before .unread .ensures) _ (c .before .before .above .ensures) _ (c .after .ensures) (λ z. omega arith)
 
--- src/lib.rt:265:9
 sub-i : tie.Need-sub-i Inv-loop μ-loop
 sub-i c = search needs
 
--- src/lib.rt:250:5
 loop-less : tie.Need-loop-less Inv-loop μ-loop
 loop-less c = search needs
 
--- src/lib.rt:250:5
 loop-again : tie.Need-loop-again Inv-loop μ-loop
 loop-again c =
     let p = c .before .before .before .before .before .before .before .pre in
@@ -98,7 +82,6 @@ loop-again c =
       λ H F a s. back-more H F _ s _ _ _ (inside (c .before .before .before .before)) (back (c .before .before .before .before) H F a s) _ (c .before .before .unread .ensures) _ (c .before .above .ensures) (omega arith),
     )
 
--- src/lib.rt:243:1
 returns-2 : tie.Need-returns-2 Inv-loop μ-loop
 returns-2 c = λ H F a s. back-none H F _ _ _ _ (omega arith) (c .before .loop .inv .2 H F a s)
 

@@ -1,27 +1,20 @@
+-- `lead` meets its contract: W, or else the least event above W.
 use borrow.Author.Needs.{needs}
 use mathlib.Core.Path.{_∙_, sym}
 use Rattle.succession.specs.Succession.{lead}
 use Rattle.succession.proofs.lead.Statement.{statement}
 use Rattle.succession.proofs.lead.Tie as tie
-use Rattle.succession.proofs.lead.Reads as reads
-use Rattle.succession.proofs.lead.Lts as lts
-use Rattle.succession.proofs.above.Reads as above-reads
-use Rattle.succession.proofs.leads.Reads as leads-reads
 
--- src/lib.rt:175:8
 leads-requires : tie.Need-leads-requires
 leads-requires c κs = search needs
 
--- src/lib.rt:176:9
 returns : tie.Need-returns
 unfolding lead
 returns c = rw (sym (c .before .leads .ensures) ∙ c .if1 .taken)
 
--- src/lib.rt:178:5
 above-requires : tie.Need-above-requires
 above-requires c κs = search needs
 
--- src/lib.rt:171:1
 returns-2 : tie.Need-returns-2
 unfolding lead
 returns-2 c = rw (sym (c .before .before .leads .ensures) ∙ c .before .if1 .left) (c .above .ensures)

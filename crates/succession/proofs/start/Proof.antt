@@ -1,45 +1,34 @@
+-- `start` meets its contract: each return is a clause of the definition, in the code's own terms.
 use borrow.Author.Needs.{needs}
 use mathlib.Core.Path.{_∙_}
 use Rattle.succession.proofs.Cases.{start-U, start-T, start-T-none, start-none}
 use Rattle.succession.proofs.start.Statement.{statement}
 use Rattle.succession.proofs.start.Tie as tie
-use Rattle.succession.proofs.start.Reads as reads
-use Rattle.succession.proofs.start.Lts as lts
-use Rattle.succession.proofs.nowhere.Reads as nowhere-reads
 
--- src/lib.rt:90:13
 nowhere-requires : tie.Need-nowhere-requires
 nowhere-requires c κs = search needs
 
--- src/lib.rt:90:13
 returns : tie.Need-returns
 returns c = search needs
 
--- src/lib.rt:94:19
 sub-t5 : tie.Need-sub-t5
 sub-t5 c = search needs
 
--- src/lib.rt:92:9
 returns-2 : tie.Need-returns-2
 returns-2 c = start-U _ _ (c .before .if1 .taken) (c .if2 .left)
 
--- src/lib.rt:99:13
 nowhere-requires-2 : tie.Need-nowhere-requires-2
 nowhere-requires-2 c κs = search needs
 
--- src/lib.rt:99:13
 returns-3 : tie.Need-returns-3
 returns-3 c = c .nowhere2 .ensures ∙ start-T-none _ _ (c .before .before .if3 .taken) (c .before .if4 .taken)
 
--- src/lib.rt:101:9
 returns-4 : tie.Need-returns-4
 returns-4 c = start-T _ _ (c .before .if3 .taken) (c .if4 .left)
 
--- src/lib.rt:106:5
 nowhere-requires-3 : tie.Need-nowhere-requires-3
 nowhere-requires-3 c κs = search needs
 
--- src/lib.rt:85:1
 returns-5 : tie.Need-returns-5
 returns-5 c = c .nowhere3 .ensures ∙ start-none _ _ (c .before .before .if1 .left) (c .before .if3 .left)
 

@@ -1,5 +1,6 @@
+-- `raise_at` meets its contract: the beginning of the word filled into zeros, and then `grow`.
 use borrow.Author.Needs.{needs}
-use mathlib.Core.Path.{_≡_, sym}
+use mathlib.Core.Path.{sym}
 use mathlib.Core.List.{_∷_, _++_}
 use native.Mathlib.Omega.{arith}
 use Prim.Native.Nat.{_≤_}
@@ -7,26 +8,18 @@ use lib.ListN.{length, take}
 use lib.Seq.{length-take-le}
 use Rattle.succession.proofs.Padding.{padded-over, held-by}
 use Rattle.succession.specs.Succession.{ending}
-use Rattle.succession.proofs.raised.Statement.{statement}
-use Rattle.succession.proofs.raised.Tie as tie
-use Rattle.succession.proofs.raised.Reads as reads
-use Rattle.succession.proofs.raised.Lts as lts
-use Rattle.lists.proofs.fill.Reads as fill-reads
-use Rattle.succession.proofs.grow.Reads as grow-reads
+use Rattle.succession.proofs.raise_at.Statement.{statement}
+use Rattle.succession.proofs.raise_at.Tie as tie
 
--- src/lib.rt:321:10
 slice-aggregate-fill : tie.Need-slice-aggregate-fill
 slice-aggregate-fill c = search needs
 
--- src/lib.rt:321:22
 slice-aggregate-fill-2 : tie.Need-slice-aggregate-fill-2
 slice-aggregate-fill-2 c = sym (length-take-le _ _ (search needs))
 
--- src/lib.rt:321:5
 fill-requires : tie.Need-fill-requires
 fill-requires c κs = search needs
 
--- src/lib.rt:322:9
 grow-requires : tie.Need-grow-requires
 grow-requires c κs =
     let p = c .before .before .before .before .before .before .pre in
@@ -35,7 +28,6 @@ grow-requires c κs =
     let l : length (take (a .place) (a .word .now)) ≤ 51 = omega arith in
     (take (a .place) (a .word .now), padded-over (take (a .place) (a .word .now)) _ l (c .before .before .fill .ensures), sym e, p .1, p .2, p .3)
 
--- src/lib.rt:316:1
 returns : tie.Need-returns
 returns c =
     let p = c .before .before .before .before .before .before .before .pre in
@@ -44,7 +36,7 @@ returns c =
     let l : length (take (a .place) (a .word .now)) ≤ 51 = omega arith in
     held-by (take (a .place) (a .word .now) ++ (a .event ∷ ending (a .height) (a .free))) _ _ (c .grow .ensures (take (a .place) (a .word .now)) (padded-over (take (a .place) (a .word .now)) _ l (c .before .before .before .fill .ensures)) (sym e))
 
-pub raised-spec : {M : Type 1} → statement M
-raised-spec =
+pub raise-at-spec : {M : Type 1} → statement M
+raise-at-spec =
     tie.close
     (tie.spec slice-aggregate-fill slice-aggregate-fill-2 fill-requires grow-requires returns)
