@@ -5,15 +5,25 @@
 //
 //   check S0 S1 ROOT                               ok
 //   relabel S0 S1 ROOT [R0 R1 RW]                  S0 S1 WORD
+//   compare rooted S0 S1 ROOT S0 S1 ROOT           same or different; refused N side K
+//   compare unrooted S0 S1 ROOT S0 S1 ROOT         the same
 //   invariants S0 S1 ROOT                          E2 E3 C T LEVEL
+//   symmetries S0 S1 ROOT                          their number
+//   kept S0 S1 ROOT                                yes or no
 //   read WORD [R0 R1]                              S0 S1
-//   lesser A B                                     1 A or 2 B
+//   lesser A B                                     1 A or 2 B, the list that is handed back
+//   count N                                        the number of diagrams of that size
+//   at N P [R0 R1 RW]                              S0 S1 WORD
+//   position S0 S1 ROOT                            its number
 //   walk N [ROOM]                                  how many numbers, and the numbers
+//   begin N                                        ok
+//   step [R0 R1 RW]                                S0 S1 WORD or end; a step before any accepted begin is refused 34
 mod answers;
 mod arguments;
 mod commands;
 mod given;
 mod listing;
+mod runs;
 mod spelling;
 mod state;
 
