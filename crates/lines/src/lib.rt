@@ -1,7 +1,7 @@
 // The parts of a command's line, and the parts of its answer.
 //
 // A line is words parted by one space. A number is decimal digits, at least one, and fits 64 bits. A list is numbers up to 65,535 parted
-// by commas, at most 2,048 of them; `-` is the empty list. Whatever else is read is no number and no list, and is said to be bad.
+// by commas; `-` is the empty list. Whatever else is read is no number and no list, and is said to be bad.
 //
 // What is written goes into a lent buffer at a place, and the place after it is handed back. Bytes beyond the buffer's end are left out.
 mod parsing;
@@ -22,7 +22,5 @@ pub use printing::put_numbers;
 pub use printing::put_signed;
 pub use printing::put_text;
 
-// The most entries of a list.
-pub const MAX_ENTRIES: usize = 2048;
 // The most words that split tells apart.
 pub const MAX_WORDS: usize = 8;

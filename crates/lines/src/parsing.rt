@@ -1,7 +1,7 @@
 // Words, numbers and lists, read from bytes.
-use crate::MAX_ENTRIES;
 use crate::MAX_WORDS;
 ghost use Prim.Native.Nat.{_≤_};
+ghost use lib.ListN.{length};
 
 // Where each word of a line begins and ends, and how many words there are; of a line with more than MAX_WORDS, the first ones and
 // one more than MAX_WORDS.
@@ -116,9 +116,9 @@ pub fn number(word: &[u8]) -> Parsed {
     parsed
 }
 
-// The list that a word is, written at the beginning of out.
-pub fn list(word: &[u8], out: &mut [u16; MAX_ENTRIES]) -> Listed
-    ensures { λ r. ⌜ r .length ≤ 2048 ⌝ }
+// The list that a word is, written at the beginning of out. One that is longer than out is bad.
+pub fn list(word: &[u8], out: &mut [u16]) -> Listed
+    ensures { λ r. ⌜ r .length ≤ length (now (out .exit)) ⌝ }
 {
     let bad = Listed {
         good: false,
@@ -141,7 +141,7 @@ pub fn list(word: &[u8], out: &mut [u16; MAX_ENTRIES]) -> Listed
         if 65535 < entry.value {
             return bad;
         }
-        if MAX_ENTRIES <= length {
+        if out.len() <= length {
             return bad;
         }
         out[length] = entry.value as u16;

@@ -1,0 +1,76 @@
+// Which command a line is. Each function tries the names of its group, and hands what it does not know on to the next.
+use crate::answers::error;
+use crate::given;
+use crate::listing;
+use crate::runs;
+use crate::spelling;
+use crate::state::Done;
+use crate::state::State;
+use lines::Words;
+use lines::is;
+use lines::split;
+use lines::word;
+
+fn on_sizes(name: &[u8], line: &[u8], words: Words, out: &mut [u8], at: usize) -> usize {
+    if is(name, b"count") {
+        return listing::count(line, words, out, at);
+    }
+    if is(name, b"at") {
+        return listing::diagram_at(line, words, out, at);
+    }
+    if is(name, b"position") {
+        return listing::position(line, words, out, at);
+    }
+    if is(name, b"walk") {
+        return listing::walk(line, words, out, at);
+    }
+    error(out, at)
+}
+
+fn on_words(name: &[u8], line: &[u8], words: Words, out: &mut [u8], at: usize) -> usize {
+    if is(name, b"read") {
+        return spelling::read(line, words, out, at);
+    }
+    if is(name, b"lesser") {
+        return spelling::lesser(line, words, out, at);
+    }
+    on_sizes(name, line, words, out, at)
+}
+
+fn on_diagrams(name: &[u8], line: &[u8], words: Words, out: &mut [u8], at: usize) -> usize {
+    if is(name, b"check") {
+        return given::check(line, words, out, at);
+    }
+    if is(name, b"relabel") {
+        return given::relabel(line, words, out, at);
+    }
+    if is(name, b"compare") {
+        return given::compare(line, words, out, at);
+    }
+    if is(name, b"invariants") {
+        return given::invariants(line, words, out, at);
+    }
+    if is(name, b"symmetries") {
+        return given::symmetries(line, words, out, at);
+    }
+    if is(name, b"kept") {
+        return given::kept(line, words, out, at);
+    }
+    on_words(name, line, words, out, at)
+}
+
+// The commands that alter something come first; the others leave the state as it was.
+pub fn command(line: &[u8], state: State, out: &mut [u8], at: usize) -> Done {
+    let words = split(line);
+    let name = word(line, words, 0);
+    if is(name, b"begin") {
+        return runs::begin(line, words, state, out, at);
+    }
+    if is(name, b"step") {
+        return runs::step(line, words, state, out, at);
+    }
+    Done {
+        state,
+        at: on_diagrams(name, line, words, out, at),
+    }
+}

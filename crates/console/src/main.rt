@@ -1,0 +1,214 @@
+// Reads commands from standard input, one a line, and writes one line for each to standard output, so that every operation can be tried
+// from a shell. Words are parted by one space. A list is decimal numbers up to 65,535, parted by commas, at most 2,048 of them, and `-` is
+// the empty list; other numbers fit 64 bits. ROOMS are lengths of the output lists, which are long enough where they are left out. A line
+// of any other form, or of more than 65,536 bytes, prints `error` and alters nothing. Every refusal prints `refused N`.
+//
+//   check S0 S1 ROOT                               ok
+//   relabel S0 S1 ROOT [R0 R1 RW]                  S0 S1 WORD
+//   compare rooted S0 S1 ROOT S0 S1 ROOT           same or different; refused N side K
+//   compare unrooted S0 S1 ROOT S0 S1 ROOT         the same
+//   invariants S0 S1 ROOT                          E2 E3 C T LEVEL
+//   symmetries S0 S1 ROOT                          their number
+//   kept S0 S1 ROOT                                yes or no
+//   read WORD [R0 R1]                              S0 S1
+//   lesser A B                                     1 A or 2 B, the list that is handed back
+//   count N                                        the number of diagrams of that size
+//   at N P [R0 R1 RW]                              S0 S1 WORD
+//   position S0 S1 ROOT                            its number
+//   walk N [ROOM]                                  how many numbers, and the numbers
+//   begin N                                        ok
+//   step [R0 R1 RW]                                S0 S1 WORD or end; a step before any accepted begin is refused 34
+mod answers;
+mod arguments;
+mod commands;
+mod given;
+mod listing;
+mod runs;
+mod spelling;
+mod state;
+
+use answers::error;
+use commands::command;
+use libc::STDIN_FILENO;
+use libc::STDOUT_FILENO;
+use lines::put_byte;
+use state::Done;
+use state::State;
+ghost use Prim.Native.Nat.{_≤_};
+ghost use lib.ListN.{length};
+
+// The longest line that is read, without its newline.
+const LONGEST: usize = 65536;
+// Twice that, so that a line that is still incomplete leaves room to read on.
+const INPUT: usize = 131072;
+// Twice what the longest answer takes, and more.
+const OUTPUT: usize = 65536;
+
+// After the lines that were complete: where the next one begins, and what they left.
+struct Passed {
+    start: usize,
+    state: State,
+}
+
+// After a read: whether there may be more, how many bytes of an incomplete line are kept, and what the lines before it left.
+struct Turned {
+    more: bool,
+    have: usize,
+    state: State,
+}
+
+// Writes the answers so far where they are many, and returns the place for the next one.
+fn written(out: &[u8], at: usize, few: usize) -> usize {
+    if at <= few {
+        return at;
+    }
+    if out.len() < at {
+        return 0;
+    }
+    io::write_all(STDOUT_FILENO, &out[0..at]);
+    0
+}
+
+// Answers one line. The end of a line that was too long, which has its answer, is passed over.
+fn answer(line: &[u8], state: State, out: &mut [u8], at: usize) -> Done {
+    let mut next = state;
+    if state.skips {
+        next.skips = false;
+        return Done { state: next, at };
+    }
+    if LONGEST < line.len() {
+        let end = error(out, at);
+        return Done {
+            state,
+            at: put_byte(out, end, b'\n'),
+        };
+    }
+    let mut done = command(line, state, out, at);
+    let end = done.at;
+    done.at = put_byte(out, end, b'\n');
+    done
+}
+
+// Answers the lines whose newlines are there. None is among the bytes before `searched`.
+fn answer_lines(input: &[u8], searched: usize, state: State, out: &mut [u8]) -> Passed
+    requires { ⌜ searched ≤ length (now input) ⌝ }
+    ensures { λ r. ⌜ r .start ≤ length (now (input .entry)) ⌝ }
+{
+    let mut current = state;
+    let mut start: usize = 0;
+    let mut from = searched;
+    let mut at: usize = 0;
+    loop {
+        let end = bytes::scan::find(input, from, input.len(), b'\n');
+        if end == input.len() {
+            written(out, at, 0);
+            return Passed {
+                start,
+                state: current,
+            };
+        }
+        let done = answer(&input[start..end], current, out, at);
+        current = done.state;
+        at = written(out, done.at, OUTPUT / 2);
+        start = end + 1;
+        from = start;
+    }
+}
+
+// Reads once, after the bytes that are there, and returns how many there are then.
+fn read_more(input: &mut [u8], have: usize) -> usize
+    requires { ⌜ have ≤ length (now input) ⌝ }
+    ensures { λ r. ⌜ (have ≤ r) × (r ≤ length (now (input .entry))) ⌝ }
+{
+    let rest = &mut input[have..];
+    let got = libc::read(STDIN_FILENO, rest);
+    have + io::count(got, rest)
+}
+
+// Moves the bytes from `from` up to `have` to the front, and returns how many they are.
+fn keep(input: &mut [u8], from: usize, have: usize) -> usize
+    requires { ⌜ (from ≤ have) × (have ≤ length (now input)) ⌝ }
+    ensures { λ r. ⌜ r ≤ have ⌝ }
+{
+    let mut i: usize = 0;
+    let mut j = from;
+    while j < have {
+        input[i] = input[j];
+        i += 1;
+        j += 1;
+    }
+    i
+}
+
+// Reads once and answers the lines that are complete then. A line that is too long already is answered, and passed over from here on.
+fn turn(input: &mut [u8], have: usize, state: State, out: &mut [u8]) -> Turned
+    requires { ⌜ have ≤ length (now input) ⌝ }
+    ensures { λ r. ⌜ r .have ≤ length (now (input .entry)) ⌝ }
+{
+    let now = read_more(input, have);
+    if now == have {
+        return Turned {
+            more: false,
+            have,
+            state,
+        };
+    }
+    let passed = answer_lines(&input[0..now], have, state, out);
+    let mut next = passed.state;
+    let rest = keep(input, passed.start, now);
+    if next.skips {
+        return Turned {
+            more: true,
+            have: 0,
+            state: next,
+        };
+    }
+    if rest <= LONGEST {
+        return Turned {
+            more: true,
+            have: rest,
+            state: next,
+        };
+    }
+    let end = error(out, 0);
+    let at = put_byte(out, end, b'\n');
+    written(out, at, 0);
+    next.skips = true;
+    Turned {
+        more: true,
+        have: 0,
+        state: next,
+    }
+}
+
+// Answers the bytes that are left at the end of the input, a line without a newline, if there are any.
+fn answer_last(input: &[u8], have: usize, state: State, out: &mut [u8])
+    requires { ⌜ have ≤ length (now input) ⌝ }
+{
+    if 0 < have {
+        let done = answer(&input[0..have], state, out, 0);
+        written(out, done.at, 0);
+    }
+}
+
+// Reads and answers to the end of the input. A proved loop has to end, and nothing says that the input does: so the turns are counted
+// down, from a number that no session uses up.
+fn session(input: &mut [u8], out: &mut [u8]) {
+    let mut state = state::start();
+    let mut have: usize = 0;
+    let mut turns = u64::MAX;
+    while 0 < turns {
+        let turned = turn(input, have, state, out);
+        if !turned.more {
+            answer_last(input, have, state, out);
+            return;
+        }
+        state = turned.state;
+        have = turned.have;
+        turns -= 1;
+    }
+}
+
+fn main() {
+    session(&mut [0u8; INPUT], &mut [0u8; OUTPUT]);
+}

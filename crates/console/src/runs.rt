@@ -1,0 +1,107 @@
+// The commands on the run, which they alter.
+use crate::answers::error;
+use crate::answers::ok;
+use crate::answers::put_diagram;
+use crate::answers::refused;
+use crate::arguments::MAX_ENTRIES;
+use crate::arguments::three_rooms;
+use crate::state::Done;
+use crate::state::State;
+use lines::Words;
+use lines::number;
+use lines::put_text;
+use lines::word;
+use lists::wide;
+use running::Beginning;
+use running::Run;
+use running::Stepping;
+
+pub fn begin(line: &[u8], words: Words, state: State, out: &mut [u8], at: usize) -> Done {
+    let size = number(word(line, words, 1));
+    if !size.good || words.count != 2 {
+        return Done {
+            state,
+            at: error(out, at),
+        };
+    }
+    let begun = running::begin(size.value);
+    let answer = begun.answer;
+    match answer {
+        Beginning::Begun => {
+            let run = begun.run;
+            let skips = state.skips;
+            Done {
+                state: State { skips, run },
+                at: ok(out, at),
+            }
+        }
+        Beginning::Refused(k) => Done {
+            state,
+            at: refused(out, at, k),
+        },
+    }
+}
+
+// After a step: the run, and the place after the answer.
+struct Stepped {
+    run: Run,
+    at: usize,
+}
+
+fn put_step(
+    run: Run,
+    s0: &mut [u16],
+    s1: &mut [u16],
+    word: &mut [u16],
+    out: &mut [u8],
+    at: usize,
+) -> Stepped {
+    let stepped = running::step(run, s0, s1, word);
+    let next = stepped.run;
+    let answer = stepped.answer;
+    match answer {
+        Stepping::Length(m) => Stepped {
+            run: next,
+            at: put_diagram(out, at, run.size as usize, s0, s1, wide(m), word),
+        },
+        Stepping::End => Stepped {
+            run: next,
+            at: put_text(out, at, b"end"),
+        },
+        Stepping::Refused(k) => Stepped {
+            run: next,
+            at: refused(out, at, k),
+        },
+    }
+}
+
+pub fn step(line: &[u8], words: Words, state: State, out: &mut [u8], at: usize) -> Done {
+    let rooms = three_rooms(line, words, 1);
+    if !rooms.good {
+        return Done {
+            state,
+            at: error(out, at),
+        };
+    }
+    let r0 = rooms.s0;
+    let r1 = rooms.s1;
+    let rw = rooms.word;
+    let mut s0 = [0u16; MAX_ENTRIES];
+    let mut s1 = [0u16; MAX_ENTRIES];
+    let mut items = [0u16; MAX_ENTRIES];
+    let before = state.run;
+    let stepped = put_step(
+        before,
+        &mut s0[0..r0],
+        &mut s1[0..r1],
+        &mut items[0..rw],
+        out,
+        at,
+    );
+    let run = stepped.run;
+    let skips = state.skips;
+    Done {
+        state: State { skips, run },
+        at: stepped.at,
+    }
+}
