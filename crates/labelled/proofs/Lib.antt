@@ -1,3 +1,4 @@
 pub mod Arrays
 pub mod Underway
 pub mod Sofar
+pub mod Decided

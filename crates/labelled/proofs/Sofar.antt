@@ -16,7 +16,7 @@ use Rattle.pending.proofs.Laws.{ring-top}
 use Rattle.labelling.specs.Labelling.{move, Labelled, run, first, label, edge, labels, wordOf}
 use Rattle.labelling.proofs.Along.{falls, size}
 use Rattle.labelling.proofs.Labels.{Done, done, whole, edge-n}
-use Rattle.labelled.specs.Scratch.{Underway, opening, Did, Wrote}
+use Rattle.labelled.specs.Scratch.{Holds, HoldsSome, Underway, opening, Did, Wrote}
 use Rattle.labelled.specs.declared.events.Turn.{Turn}
 use Rattle.labelled.proofs.Underway.{accepts-maps, accepts-diagram}
 
@@ -131,24 +131,32 @@ module _ (s0 s1 : List ℕ) (root : ℕ) (a : Accepts s0 s1 root) where
   pub labels-edges : (j : ℕ) → Edge (length s0) j → Edge (length s0) (edge (labels s0 s1 root) j)
   labels-edges = edge-n (length s0) (at s0) (at s1) (accepts-diagram s0 s1 root a) root (a .root-in) (labels s0 s1 root) labels-done
 
+  pub labels-some : (la od : List ℕ) → Holds la od (length s0) (labels s0 s1 root) → HoldsSome la od (length s0)
+  labels-some la od h = record {
+    edges = labels s0 s1 root;
+    holds = h;
+    apart = labels-done .inv .apart;
+    small = λ x i. (let e = labels-done .inv .edges x i in let n = a .size in omega arith);
+    room = a .size .1;
+  }
+
 -- ---- the items in a list: its first m places, before what it held
 
-pub record Filled (s0 s1 : List ℕ) (root : ℕ) (la od nx pv : List ℕ) (c : ℕ) (a b : List ℕ) (m : ℕ) : Type 0 where
-  pub items : List ℕ
-  pub sofar : Sofar s0 s1 root la od nx pv c items
-  pub counted : length items ≡ m
-  pub written : b ≡ items ++ drop m a
+pub record Filled (s0 s1 : List ℕ) (root : ℕ) (la od nx pv : List ℕ) (c : ℕ) (w a b : List ℕ) (m : ℕ) : Type 0 where
+  pub sofar : Sofar s0 s1 root la od nx pv c w
+  pub counted : length w ≡ m
+  pub written : b ≡ w ++ drop m a
 
 -- the first item stands in the list already when the loop begins
 pub filled-begin : (s0 s1 : List ℕ) (root : ℕ) (la od nx pv : List ℕ) (e : Turn) (a : List ℕ) → 0 < length a → Did s0 s1 la od nx pv (opening s0 root) e
-    → Filled s0 s1 root la od nx pv (e .given) (set a 0 (e .item)) (set a 0 (e .item)) 1
-filled-begin s0 s1 root la od nx pv e a h d = record { items = e .item ∷ []; sofar = sofar-begin s0 s1 root la od nx pv e d; counted = refl; written = go a h }
+    → Filled s0 s1 root la od nx pv (e .given) (e .item ∷ []) (set a 0 (e .item)) (set a 0 (e .item)) 1
+filled-begin s0 s1 root la od nx pv e a h d = record { sofar = sofar-begin s0 s1 root la od nx pv e d; counted = refl; written = go a h }
   where
     go : (a : List ℕ) → 0 < length a → set a 0 (e .item) ≡ e .item ∷ drop 1 (set a 0 (e .item))
     go [] h = absurd (omega arith)
     go (x ∷ a) h = refl
 
-module _ (s0 s1 : List ℕ) (root : ℕ) (la od nx pv : List ℕ) (c : ℕ) (a b : List ℕ) (m : ℕ) (F : Filled s0 s1 root la od nx pv c a b m) where
+module _ (s0 s1 : List ℕ) (root : ℕ) (la od nx pv : List ℕ) (c : ℕ) (w a b : List ℕ) (m : ℕ) (F : Filled s0 s1 root la od nx pv c w a b m) where
   pub filled-few : m ≤ suc (length s0)
   filled-few = let i = F .sofar .moves in let j = F .counted in omega arith
 
@@ -157,26 +165,25 @@ module _ (s0 s1 : List ℕ) (root : ℕ) (la od nx pv : List ℕ) (c : ℕ) (a b
 
   -- while an edge is pending: the event's state, and room for its item
   pub filled-event : getD nx 0 0 ≢ 0 → (o : List ℕ) × (k : ℕ) × (r : List ℕ) × Underway s0 s1 la od nx pv c o (k ∷ r)
-  filled-event n = let (k, r, q) = sofar-pending s0 s1 root la od nx pv c (F .items) (F .sofar) n in (F .sofar .marked, k, r, rw q at (F .sofar .underway))
+  filled-event n = let (k, r, q) = sofar-pending s0 s1 root la od nx pv c w (F .sofar) n in (F .sofar .marked, k, r, rw q at (F .sofar .underway))
 
   pub filled-room : getD nx 0 0 ≢ 0 → m ≤ length s0
   filled-room n =
-      let (k, r, q) = sofar-pending s0 s1 root la od nx pv c (F .items) (F .sofar) n in
-      let i = sofar-room s0 s1 root la od nx pv c (F .items) (F .sofar) k r q in
+      let (k, r, q) = sofar-pending s0 s1 root la od nx pv c w (F .sofar) n in
+      let i = sofar-room s0 s1 root la od nx pv c w (F .sofar) k r q in
       let j = F .counted in
       omega arith
 
   pub filled-more : getD nx 0 0 ≢ 0 → length s0 < length a → (la′ od′ nx′ pv′ : List ℕ) (e : Turn)
       → ((o : List ℕ) (k : ℕ) (r : List ℕ) → Underway s0 s1 la od nx pv c o (k ∷ r) → Did s0 s1 la′ od′ nx′ pv′ (move (at s0) (at s1) o k r) e)
-      → Filled s0 s1 root la′ od′ nx′ pv′ (e .given) a (set b m (e .item)) (m + 1)
+      → Filled s0 s1 root la′ od′ nx′ pv′ (e .given) (w ++ (e .item ∷ [])) a (set b m (e .item)) (m + 1)
   filled-more n h la′ od′ nx′ pv′ e d =
-      let (k, r, q) = sofar-pending s0 s1 root la od nx pv c (F .items) (F .sofar) n in
+      let (k, r, q) = sofar-pending s0 s1 root la od nx pv c w (F .sofar) n in
       let i = filled-room n in
       record {
-        items = F .items ++ (e .item ∷ []);
-        sofar = sofar-event s0 s1 root la od nx pv c (F .items) (F .sofar) k r q la′ od′ nx′ pv′ e (d (F .sofar .marked) k r (rw q at (F .sofar .underway)));
+        sofar = sofar-event s0 s1 root la od nx pv c w (F .sofar) k r q la′ od′ nx′ pv′ e (d (F .sofar .marked) k r (rw q at (F .sofar .underway)));
         counted = simp length-append (let j = F .counted in omega arith);
-        written = rw (F .written, drop-cons a m 0 (omega arith), set-at (F .items) (getD a m 0) (drop (suc m) a) (e .item) m (F .counted), add-one, append-assoc);
+        written = rw (F .written, drop-cons a m 0 (omega arith), set-at w (getD a m 0) (drop (suc m) a) (e .item) m (F .counted), add-one, append-assoc);
       }
 
   pub filled-end : Accepts s0 s1 root → getD nx 0 0 ≡ 0 → Wrote s0 s1 root la od nx pv a b m
@@ -189,10 +196,10 @@ module _ (s0 s1 : List ℕ) (root : ℕ) (la od nx pv : List ℕ) (c : ℕ) (a b
   }
     where
       empty : F .sofar .stack ≡ []
-      empty = sofar-empty s0 s1 root la od nx pv c (F .items) (F .sofar) z
+      empty = sofar-empty s0 s1 root la od nx pv c w (F .sofar) z
 
-      end : (wordOf s0 s1 root ≡ F .items) × (labels s0 s1 root ≡ F .sofar .marked)
-      end = sofar-end s0 s1 root la od nx pv c (F .items) (F .sofar) empty
+      end : (wordOf s0 s1 root ≡ w) × (labels s0 s1 root ≡ F .sofar .marked)
+      end = sofar-end s0 s1 root la od nx pv c w (F .sofar) empty
 
       size-is : length s0 ≡ c
       size-is = sym (F .sofar .underway .holds .given-is ∙ ap length (sym (end .1)) ∙ labels-whole s0 s1 root A)

@@ -15,6 +15,7 @@ use Rattle.pending.specs.Ring.{Ring}
 use Rattle.labelling.specs.Labelling.{Move, move}
 use Rattle.labelling.proofs.Along.{Inv, View, is-W, is-J, is-B, is-F, view, next, size}
 use Rattle.labelling.proofs.Labels.{inv-U, inv-T}
+use Rattle.labelling.proofs.Rootings.{accepts-rerooted}
 use Rattle.labelling.proofs.Moves.{move-W, move-J, move-B, move-F}
 use Rattle.labelled.specs.Scratch.{Holds, Underway, opening, Did}
 use Rattle.labelled.proofs.Arrays.{lab-none, lab-zero}
@@ -26,19 +27,6 @@ accepts-diagram s0 s1 r a = accepts-rooted s0 s1 r .0 a .1 .diagram
 
 pub accepts-maps : (s0 s1 : List ℕ) (r : ℕ) → Accepts s0 s1 r → Maps (length s0) (at s0) (at s1)
 accepts-maps s0 s1 r a = accepts-diagram s0 s1 r a .maps
-
--- any edge can serve as the root
-pub accepts-rooting : (s0 s1 : List ℕ) (r x : ℕ) → Accepts s0 s1 r → Edge (length s0) x → Accepts s0 s1 x
-accepts-rooting s0 s1 r x a e = record {
-  size = a .size;
-  lengths = a .lengths;
-  root-in = e;
-  blacks = a .blacks;
-  whites = a .whites;
-  thrice = a .thrice;
-  twice = a .twice;
-  connected = a .connected;
-}
 
 pub accepts-small : (s0 s1 : List ℕ) (r x : ℕ) → Accepts s0 s1 r → Edge (length s0) x → Edge 1024 x
 accepts-small s0 s1 r x a e = let i = a .size in omega arith
@@ -132,7 +120,7 @@ module _ (s0 s1 : List ℕ) (r : ℕ) (a : Accepts s0 s1 r) where
       → x ≡ v .item → Holds la od c (v .marked) → Ring nx pv (v .stack) → Did s0 s1 la od nx pv (opening s0 r) (record { item = x; given = c })
   start v la od nx pv x c e i j h q =
       let s = a .size in
-      record { item-is = rw e j; leaves = record { accepted = accepts-rooting s0 s1 r 1 a (omega arith); along = rw e i; holds = rw e h; ring = rw e q } }
+      record { item-is = rw e j; leaves = record { accepted = accepts-rerooted s0 s1 r a 1 (omega arith); along = rw e i; holds = rw e h; ring = rw e q } }
 
   pub did-U : (la od nx pv : List ℕ) (c : ℕ) → at s0 r ≡ r → Holds la od c (r ∷ []) → Ring nx pv (r ∷ [])
       → Did s0 s1 la od nx pv (opening s0 r) (record { item = 0; given = c })

@@ -5,8 +5,8 @@ use crate::events::follow;
 use lists::wide;
 ghost use mathlib.Core.Path.{_≡_};
 ghost use mathlib.Core.List.{List, _++_, []};
-ghost use Prim.Native.Nat.{ℕ, _<_, _≤_};
-ghost use lib.ListN.{length, drop};
+ghost use Prim.Native.Nat.{ℕ, suc, _<_, _≤_};
+ghost use lib.ListN.{length, take, drop};
 ghost use Rattle.lists.specs.Lists.{at, listed};
 ghost use Rattle.lists.specs.Ranges.{Edge};
 ghost use Rattle.diagrams.specs.Check.{Accepts, Entries};
@@ -53,6 +53,29 @@ pub fn take_back(labels: &mut [u16; 1025], order: &[u16; 1025], given: u16)
         labels[wide(x)] = 0;
         left -= 1;
     }
+}
+
+// Writes the diagram's word and leaves the arrays fit for the next labelling. Returns the word's length.
+pub fn own_word(
+    s0: &[u16],
+    s1: &[u16],
+    labels: &mut [u16; 1025],
+    order: &mut [u16; 1025],
+    next: &mut [u16; 1025],
+    prev: &mut [u16; 1025],
+    root: u16,
+    word: &mut [u16],
+) -> usize
+    requires { ⌜ Accepts (now s0) (now s1) root ⌝ }
+    requires { ⌜ Ready (now labels) (now order) (now next) (now prev) ⌝ }
+    requires { ⌜ length (now s0) < length (now word) ⌝ }
+    ensures few { λ m. ⌜ m ≤ suc (length (now (s0 .entry))) ⌝ }
+    ensures word { λ m. ⌜ take m (now (word .exit)) ≡ wordOf (now (s0 .entry)) (now (s1 .entry)) root ⌝ }
+    ensures ready { λ _. ⌜ Ready (now (labels .exit)) (now (order .exit)) (now (next .exit)) (now (prev .exit)) ⌝ }
+{
+    let m = write_word(s0, s1, labels, order, next, prev, root, word);
+    take_back(labels, order, s0.len() as u16);
+    m
 }
 
 // Writes the list s, seen through the labels, into the first places of t.

@@ -1,0 +1,34 @@
+-- A rooting's word traced along another word, `own`: it is written only as far as the first item that differs, and stands to `own` as
+-- the whole word does.
+--
+--   goesOn own i x top     the trace goes on after the item x at place i: own has it there too, and an edge is pending
+--   Traced s0 s1 x own c   c begins the word of the rooting x; whether it precedes own, and whether it is own, it shares with that word
+--   Followed ..            the trace with the arrays it leaves
+use mathlib.Core.Path.{_≡_}
+use mathlib.Core.Bool.{Bool, false}
+use mathlib.Core.List.{List}
+use Prim.Native.Nat.{ℕ, suc, _≤_}
+use lib.Dec.{eqb, ltb}
+use lib.ListN.{length, getD, take}
+use Rattle.lists.specs.Lists.{pick}
+use Rattle.words.specs.Order.{precedes}
+use Rattle.pending.specs.Ring.{Ring}
+use Rattle.labelling.specs.Labelling.{wordOf}
+use Rattle.labelling.specs.Rootings.{same}
+use Rattle.labelled.specs.Scratch.{HoldsSome}
+use Rattle.labelled.specs.declared.tracing.Extent.{Extent}
+
+unfoldable pub goesOn : List ℕ → ℕ → ℕ → ℕ → Bool
+goesOn own i x top = pick (ltb i (length own)) (pick (eqb (getD own i 0) x) (ltb 0 top) false) false
+
+pub record Traced (s0 s1 : List ℕ) (x : ℕ) (own c : List ℕ) : Type 0 where
+  pub begins : c ≡ take (length c) (wordOf s0 s1 x)
+  pub order-as : precedes c own ≡ precedes (wordOf s0 s1 x) own
+  pub same-as : same c own ≡ same (wordOf s0 s1 x) own
+
+pub record Followed (s0 s1 : List ℕ) (x : ℕ) (own la od nx pv cand : List ℕ) (t : Extent) : Type 0 where
+  pub holds : HoldsSome la od (t .given)
+  pub stack : List ℕ
+  pub ring : Ring nx pv stack
+  pub few : t .len ≤ suc (length s0)
+  pub traced : Traced s0 s1 x own (take (t .len) cand)

@@ -1,0 +1,40 @@
+// How many ways there are to go on from a stack of height h with f labels free, as far as sizes up to 50 need it.
+mod rows;
+
+ghost use mathlib.Core.Path.{_≡_};
+ghost use Rattle.table.specs.Rows.{entry, Found};
+
+// The number in the table; 0 where it has none.
+fn look(h: usize, f: usize) -> u64
+    ensures { λ r. ⌜ r ≡ entry h f ⌝ }
+{
+    match h {
+        0 => rows::row0(f),
+        1 => rows::row1(f),
+        2 => rows::row2(f),
+        3 => rows::row3(f),
+        4 => rows::row4(f),
+        5 => rows::row5(f),
+        6 => rows::row6(f),
+        7 => rows::row7(f),
+        8 => rows::row8(f),
+        9 => rows::row9(f),
+        10 => rows::row10(f),
+        11 => rows::row11(f),
+        12 => rows::row12(f),
+        13 => rows::row13(f),
+        14 => rows::row14(f),
+        15 => rows::row15(f),
+        16 => rows::row16(f),
+        17 => rows::row17(f),
+        18 => rows::row18(f),
+        _ => 0,
+    }
+}
+
+// The number of ways where 3h + f is at most 56, which holds all along every word of a size up to 50; otherwise 0.
+pub fn ways(h: usize, f: usize) -> u64
+    ensures { λ r. ⌜ Found h f r ⌝ }
+{
+    look(h, f)
+}
