@@ -102,7 +102,7 @@ module _ {n : ℕ} {φ : ℕ → ℕ} (p : Perm n φ) where
     some-return : ((j : ℕ) → 1 ≤ j → j < 1 + n → returns j ≡ false) → ⊥
     some-return never =
         let h = rw (tally-all (suc n), tally-all n) at
-            (tally-le (suc n) (λ k. true) n (λ k. true) (λ k. after φ k x) (λ k i _. (after-in k x e, refl)) (λ j k a _ b _ q. different j k a b q)) in
+        (tally-le (suc n) (λ k. true) n (λ k. true) (λ k. after φ k x) (λ k i _. (after-in k x e, refl)) (λ j k a _ b _ q. different j k a b q)) in
         omega arith
       where
         later : (j k : ℕ) → Edge (suc n) j → Edge (suc n) k → j < k → after φ j x ≡ after φ k x → ⊥

@@ -1,3 +1,4 @@
+pub mod Accepted
 pub mod FixedEdges
 pub mod Walks
 pub mod Counts

@@ -1,8 +1,8 @@
 // The invariants of a diagram: the edges fixed by s1 and by s0, the cycles of i to s0(s1(i)) and the longest of them, and t.
 // invariants takes any lists and refuses what check refuses; the other functions are for lists that are known to be maps of the edges.
-use diagrams::check;
 use diagrams::Diagram;
 use diagrams::Verdict;
+use diagrams::check;
 use lists::wide;
 ghost use mathlib.Core.Path.{_≡_};
 ghost use Prim.Native.Nat.{_+_, _*_, _≤_, max};

@@ -1,4 +1,5 @@
 pub mod Rest
 pub mod Texts
-pub mod Sizes
 pub mod Steps
+pub mod Sizes
+pub mod Agrees

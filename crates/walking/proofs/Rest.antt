@@ -1,15 +1,16 @@
--- The ways to go on, without the bound on their length: by their first event, where each event leads, and the listing of a size by them.
-use mathlib.Core.Path.{_≡_, refl, sym, ap, _∙_}
+-- The ways to go on at a stack, by their first event, and where each event leads. That the bound on their length, where it is enough, does not matter
+-- comes first.
+use mathlib.Core.Path.{_≡_, refl, sym, _∙_}
 use mathlib.Core.Logic.{_≢_}
 use mathlib.Core.List.{List, [], _∷_, _++_, append-assoc, append-nil}
-use Prim.Native.Nat.{ℕ, zero, suc, _+_, _-_, _*_, _≤_, _<_}
+use Prim.Native.Nat.{ℕ, zero, suc, _+_, _-_, _≤_, _<_}
 use native.Mathlib.Nat.{add-zero, add-suc, suc-add}
 use native.Mathlib.Numerals.{sub-one}
 use native.Mathlib.Omega.{arith}
 use Rattle.words.specs.Shape.{pre, less1, less3}
-use Rattle.counting.specs.Listing.{each, fan, ends, tails, listing}
+use Rattle.counting.specs.Listing.{each, fan, ends, tails}
 use Rattle.counting.proofs.Tails.{less1-same, less3-same, pre-le}
-use Rattle.walking.specs.Walk.{rest, gone, begun, Leads}
+use Rattle.walking.specs.Walk.{rest, onward, Leads}
 
 -- ---- two bounds that are enough give the same list
 
@@ -22,7 +23,7 @@ unfolding tails
 tails-0 zero f = refl
 tails-0 (suc m) f = refl
 
-pub tails-same : (m k h f : ℕ) → h + f ≤ m → h + f ≤ k → tails m h f ≡ tails k h f
+tails-same : (m k h f : ℕ) → h + f ≤ m → h + f ≤ k → tails m h f ≡ tails k h f
 unfolding tails
 tails-same zero k zero f a b = sym (tails-0 k f)
 tails-same zero k (suc h) f a b = absurd (omega arith)
@@ -48,12 +49,17 @@ rest-dead (suc f) n = unfold rest in tails-0 _ (suc f)
 
 -- ---- by the first event
 
+-- the ways to go on at a stack of height h + 1 whose first event is below e
+unfoldable pub begun : ℕ → ℕ → ℕ → List (List ℕ)
+begun zero h f = []
+begun (suc e) h f = begun e h f ++ each e (onward e h f)
+
 fan-more : (x j : ℕ) (ws : List (List ℕ)) → fan x (suc j) ws ≡ fan x j ws ++ each (x + j) ws
 fan-more x zero ws = rw (add-zero, append-nil)
 fan-more x (suc j) ws = rw (fan-more (suc x) j ws, suc-add, add-suc, append-assoc)
 
 begun-jumps : (d h f : ℕ) → begun (suc (suc (suc d))) h f ≡ begun 3 h f ++ fan 3 d (rest (pre h) f)
-unfolding begun gone
+unfolding begun onward
 begun-jumps zero h f = rw append-nil
 begun-jumps (suc d) h f =
     let e : 3 + d ≡ suc (suc (suc d)) = omega arith in
@@ -68,7 +74,7 @@ rest-suc h f =
 
 -- the events below h + 3 are all there are
 pub begun-all : (h f : ℕ) → begun (h + 3) h f ≡ rest (suc h) f
-unfolding begun gone
+unfolding begun onward
 begun-all h f =
     let e : h + 3 ≡ suc (suc (suc h)) = omega arith in
     rw (e, begun-jumps h h f, rest-suc h f) (simp append-assoc)
@@ -76,11 +82,11 @@ begun-all h f =
 -- ---- where an event leads
 
 pub leads-W : (h f : ℕ) → Leads 0 h f h f
-unfolding gone
+unfolding onward
 leads-W h f = record { same = refl; falls = omega arith }
 
 pub leads-F : (h f : ℕ) → 3 ≤ f → Leads 1 h f (h + 2) (f - 3)
-unfolding gone
+unfolding onward
 leads-F h zero l = absurd (omega arith)
 leads-F h (suc zero) l = absurd (omega arith)
 leads-F h (suc (suc zero)) l = absurd (omega arith)
@@ -90,24 +96,24 @@ leads-F h (suc (suc (suc f))) l =
     record { same = rw (a, b); falls = omega arith }
 
 pub leads-no-F : (h f : ℕ) → f < 3 → Leads 1 h f 0 1
-unfolding gone
+unfolding onward
 leads-no-F h zero l = record { same = rest-dead 1 (omega arith); falls = omega arith }
 leads-no-F h (suc zero) l = record { same = rest-dead 1 (omega arith); falls = omega arith }
 leads-no-F h (suc (suc zero)) l = record { same = rest-dead 1 (omega arith); falls = omega arith }
 leads-no-F h (suc (suc (suc f))) l = absurd (omega arith)
 
 pub leads-B : (h f : ℕ) → 1 ≤ f → Leads 2 h f h (f - 1)
-unfolding gone
+unfolding onward
 leads-B h zero l = absurd (omega arith)
 leads-B h (suc f) l = record { same = rw (sub-one (suc f)); falls = omega arith }
 
 pub leads-no-B : (h f : ℕ) → f < 1 → Leads 2 h f 0 1
-unfolding gone
+unfolding onward
 leads-no-B h zero l = record { same = rest-dead 1 (omega arith); falls = omega arith }
 leads-no-B h (suc f) l = absurd (omega arith)
 
 pub leads-J : (e h f : ℕ) → 3 ≤ e → e < h + 3 → Leads e h f (h - 1) f
-unfolding gone
+unfolding onward
 leads-J zero h f a b = absurd (omega arith)
 leads-J (suc zero) h f a b = absurd (omega arith)
 leads-J (suc (suc zero)) h f a b = absurd (omega arith)

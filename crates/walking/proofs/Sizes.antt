@@ -1,11 +1,10 @@
 -- The words of a size are those that begin with U and then those that begin with T; for the sizes 1 to 9 they fit in 1,024 numbers.
-use mathlib.Core.Path.{_≡_, refl, sym, ap, _∙_}
+use mathlib.Core.Path.{_≡_, refl, ap, _∙_}
 use mathlib.Core.Logic.{_⊎_, inl, inr}
-use mathlib.Core.Bool.{Bool, true, false}
-use mathlib.Core.List.{List, [], _∷_, _++_, append-nil}
-use Prim.Native.Nat.{ℕ, zero, suc, _+_, _-_, _*_, _≤_, _<_}
+use mathlib.Core.Bool.{true}
+use mathlib.Core.List.{List, [], _∷_, _++_}
+use Prim.Native.Nat.{ℕ, zero, suc, _+_, _-_, _≤_, _<_}
 use native.Mathlib.Nat.{zero-add}
-use native.Mathlib.Numerals.{sub-one}
 use native.Mathlib.Omega.{arith}
 use lib.Dec.{leb}
 use lib.ListN.{length, set, take, length-append, length-set}
@@ -78,7 +77,7 @@ module _ (n : ℕ) (e : Edge 9 n) (out : List ℕ) (long : 1024 ≤ length out) 
       go (inr l) = let a = ap length (large-parts n l) ∙ length-append (U-words n) (T-words n) in omega (arith, listing-few n e)
 
   pub first-room : (w : List ℕ) → length w ≡ 15 → Room out 0 (0 ∷ w) 1 1 (n - 1)
-  first-room w l = record { places = omega arith; few = omega arith; room = omega (arith, few-U) }
+  first-room w l = record { places = omega arith; short = omega arith; room = omega (arith, few-U) }
 
   module _ (w out′ word′ : List ℕ) (j : ℕ) (A : Added out 0 (0 ∷ w) 1 1 (n - 1) out′ word′ j) where
     -- the words of size 1 and of size 2 all begin with U
@@ -95,7 +94,7 @@ module _ (n : ℕ) (e : Edge 9 n) (out : List ℕ) (long : 1024 ≤ length out) 
       pub second-room : Room out′ j (set word′ 0 1) 1 3 (n - 3)
       second-room =
           let a = length-set word′ 0 1 in
-          record { places = omega arith; few = omega arith; room = rw first-T (omega (arith, both, listing-few n e, A .up-to)) }
+          record { places = omega arith; short = omega arith; room = rw first-T (omega (arith, both, listing-few n e, A .up-to)) }
 
       pub wrote-both : (out″ word″ : List ℕ) (k : ℕ) → Added out′ j (set word′ 0 1) 1 3 (n - 3) out″ word″ k → Wrote n out out″ (Numbers k)
       wrote-both out″ word″ k B =

@@ -1,16 +1,16 @@
--- The steps of the walk over plain variables: a word ended, a dead end, a pop, one more event of a branching, and the two parts of a size.
+-- The steps of the walk over plain variables: a word that ends, a dead end, and one more event of a branching.
 use mathlib.Core.Path.{_≡_, refl, sym, ap, _∙_}
 use mathlib.Core.Logic.{_≢_}
 use mathlib.Core.List.{List, [], _∷_, _++_}
-use Prim.Native.Nat.{ℕ, zero, suc, _+_, _-_, _*_, _≤_, _<_}
+use Prim.Native.Nat.{ℕ, zero, suc, _+_, _-_, _≤_, _<_}
 use native.Mathlib.Nat.{add-zero, zero-add, suc-add}
 use native.Mathlib.Numerals.{add-one}
 use native.Mathlib.Omega.{arith}
 use lib.ListN.{length, set, take, length-append, length-set}
 use lib.Seq.{take-set-le, take-suc-set, take-take, length-take-le}
 use Rattle.counting.specs.Listing.{each}
-use Rattle.walking.specs.Walk.{rest, gone, begun, text, from, Leads, Room, Added}
-use Rattle.walking.proofs.Rest.{rest-end, rest-dead, begun-all}
+use Rattle.walking.specs.Walk.{rest, onward, text, from, Leads, Room, Added}
+use Rattle.walking.proofs.Rest.{rest-end, rest-dead, begun, begun-all}
 use Rattle.walking.proofs.Texts.{text-append, text-each, text-none, text-one, from-none, from-from}
 
 -- ---- end or pop
@@ -35,8 +35,8 @@ dead out i word len f n =
 
 -- ---- branch
 
--- the events below e are gone by
-pub record Gone (out₀ : List ℕ) (i : ℕ) (word₀ : List ℕ) (len h f : ℕ) (out word : List ℕ) (j e : ℕ) : Type 0 where
+-- the loop over the events: those below e are done with
+pub record Branched (out₀ : List ℕ) (i : ℕ) (word₀ : List ℕ) (len h f : ℕ) (out word : List ℕ) (j e : ℕ) : Type 0 where
   pub events : e ≤ h + 3
   pub out-long : length out ≡ length out₀
   pub word-long : length word ≡ length word₀
@@ -44,18 +44,18 @@ pub record Gone (out₀ : List ℕ) (i : ℕ) (word₀ : List ℕ) (len h f : �
   pub up-to : j ≡ i + length (text (take len word₀) (begun e h f))
   pub written : out ≡ from i (text (take len word₀) (begun e h f)) out₀
 
-pub gone-none : (out : List ℕ) (i : ℕ) (word : List ℕ) (len h f : ℕ) → Gone out i word len h f out word i 0
+pub branched-none : (out : List ℕ) (i : ℕ) (word : List ℕ) (len h f : ℕ) → Branched out i word len h f out word i 0
 unfolding begun
-gone-none out i word len h f =
+branched-none out i word len h f =
     let e : text (take len word) [] ≡ [] = text-none (take len word) in
     record { events = omega arith; out-long = refl; word-long = refl; kept = refl; up-to = rw e (sym (add-zero i)); written = rw e (sym (from-none i out)) }
 
-pub gone-all : (out₀ : List ℕ) (i : ℕ) (word₀ : List ℕ) (len h f : ℕ) (out word : List ℕ) (j : ℕ) → Gone out₀ i word₀ len h f out word j (h + 3) → Added out₀ i word₀ len (suc h) f out word j
-gone-all out₀ i word₀ len h f out word j G = record { up-to = rw begun-all at (G .up-to); written = rw begun-all at (G .written); kept = G .kept }
+pub branched-all : (out₀ : List ℕ) (i : ℕ) (word₀ : List ℕ) (len h f : ℕ) (out word : List ℕ) (j : ℕ) → Branched out₀ i word₀ len h f out word j (h + 3) → Added out₀ i word₀ len (suc h) f out word j
+branched-all out₀ i word₀ len h f out word j B = record { up-to = rw begun-all at (B .up-to); written = rw begun-all at (B .written); kept = B .kept }
 
-begun-suc : (p : List ℕ) (h f e : ℕ) → text p (begun (suc e) h f) ≡ text p (begun e h f) ++ text (p ++ (e ∷ [])) (gone e h f)
+begun-suc : (p : List ℕ) (h f e : ℕ) → text p (begun (suc e) h f) ≡ text p (begun e h f) ++ text (p ++ (e ∷ [])) (onward e h f)
 unfolding begun
-begun-suc p h f e = text-append p (begun e h f) (each e (gone e h f)) ∙ ap (λ (t : List ℕ). text p (begun e h f) ++ t) (text-each p e (gone e h f))
+begun-suc p h f e = text-append p (begun e h f) (each e (onward e h f)) ∙ ap (λ (t : List ℕ). text p (begun e h f) ++ t) (text-each p e (onward e h f))
 
 -- the text of more events is no shorter
 begun-le : (p : List ℕ) (h f e k : ℕ) → length (text p (begun e h f)) ≤ length (text p (begun (k + e) h f))
@@ -68,11 +68,10 @@ begun-le p h f e (suc k) =
 take-less : (l : ℕ) (a b : List ℕ) → take (l + 1) a ≡ take (l + 1) b → take l a ≡ take l b
 take-less l a b e = sym (take-take l (l + 1) a (omega arith)) ∙ ap (λ (t : List ℕ). take l t) e ∙ take-take l (l + 1) b (omega arith)
 
-module _ (out₀ : List ℕ) (i : ℕ) (word₀ : List ℕ) (len h f : ℕ) (out word : List ℕ) (j e h′ f′ : ℕ) (G : Gone out₀ i word₀ len h f out word j e) (R : Room out₀ i word₀ len (suc h) f) (l : e < h + 3) (L : Leads e h f h′ f′) where
-
+module _ (out₀ : List ℕ) (i : ℕ) (word₀ : List ℕ) (len h f : ℕ) (out word : List ℕ) (j e h′ f′ : ℕ) (B : Branched out₀ i word₀ len h f out word j e) (R : Room out₀ i word₀ len (suc h) f) (l : e < h + 3) (L : Leads e h f h′ f′) where
   -- the word so far, with e
   next : take (len + 1) (set word len e) ≡ take len word₀ ++ (e ∷ [])
-  next = rw add-one (take-suc-set word len e (omega (arith, R .places, G .word-long)) ∙ ap (λ (t : List ℕ). t ++ (e ∷ [])) (G .kept))
+  next = rw add-one (take-suc-set word len e (omega (arith, R .places, B .word-long)) ∙ ap (λ (t : List ℕ). t ++ (e ∷ [])) (B .kept))
 
   grown : text (take len word₀) (begun (e + 1) h f) ≡ text (take len word₀) (begun e h f) ++ text (take (len + 1) (set word len e)) (rest h′ f′)
   grown = rw (add-one e, next, L .same) (begun-suc (take len word₀) h f e)
@@ -87,20 +86,20 @@ module _ (out₀ : List ℕ) (i : ℕ) (word₀ : List ℕ) (len h f : ℕ) (out
       let c = rw (b, begun-all h f) at a in
       omega (arith, R .room)
 
-  pub gone-room : Room out j (set word len e) (len + 1) h′ f′
-  gone-room =
+  pub branched-room : Room out j (set word len e) (len + 1) h′ f′
+  branched-room =
       let a = length-set word len e in
       let b = longer in
       let c = fits in
-      record { places = omega (arith, R .places, G .word-long, L .falls); few = omega (arith, R .few, G .word-long); room = omega (arith, G .up-to, G .out-long) }
+      record { places = omega (arith, R .places, B .word-long, L .falls); short = omega (arith, R .short, B .word-long); room = omega (arith, B .up-to, B .out-long) }
 
-  pub gone-more : (out′ word′ : List ℕ) (j′ : ℕ) → length out′ ≡ length out → length word′ ≡ length (set word len e)
-      → Added out j (set word len e) (len + 1) h′ f′ out′ word′ j′ → Gone out₀ i word₀ len h f out′ word′ j′ (e + 1)
-  gone-more out′ word′ j′ a b A = record {
-      events = omega arith;
-      out-long = a ∙ G .out-long;
-      word-long = b ∙ length-set word len e ∙ G .word-long;
-      kept = take-less len word′ (set word len e) (A .kept) ∙ take-set-le len word len e (omega arith) ∙ G .kept;
-      up-to = omega (arith, A .up-to, G .up-to, longer);
-      written = A .written ∙ rw (G .written, G .up-to, grown) (from-from i (text (take len word₀) (begun e h f)) out₀ (let b = longer in let c = fits in omega arith) (text (take (len + 1) (set word len e)) (rest h′ f′)))
+  pub branched-more : (out′ word′ : List ℕ) (j′ : ℕ) → length out′ ≡ length out → length word′ ≡ length (set word len e)
+      → Added out j (set word len e) (len + 1) h′ f′ out′ word′ j′ → Branched out₀ i word₀ len h f out′ word′ j′ (e + 1)
+  branched-more out′ word′ j′ a b A = record {
+    events = omega arith;
+    out-long = a ∙ B .out-long;
+    word-long = b ∙ length-set word len e ∙ B .word-long;
+    kept = take-less len word′ (set word len e) (A .kept) ∙ take-set-le len word len e (omega arith) ∙ B .kept;
+    up-to = omega (arith, A .up-to, B .up-to, longer);
+    written = A .written ∙ rw (B .written, B .up-to, grown) (from-from i (text (take len word₀) (begun e h f)) out₀ (let b = longer in let c = fits in omega arith) (text (take (len + 1) (set word len e)) (rest h′ f′)));
   }

@@ -1,7 +1,7 @@
 -- Words one after another, and lists written one after another into a third.
 use mathlib.Core.Path.{_≡_, refl, sym, ap, _∙_}
 use mathlib.Core.List.{List, [], _∷_, _++_, append-assoc, append-nil}
-use Prim.Native.Nat.{ℕ, zero, suc, _+_, _-_, _≤_, _<_}
+use Prim.Native.Nat.{ℕ, _+_, _-_, _≤_}
 use native.Mathlib.Nat.{add-zero, zero-add}
 use native.Mathlib.Omega.{arith}
 use lib.ListN.{length, take, drop, length-append, length-drop, take-append-drop}
@@ -45,10 +45,6 @@ unfolding from
 from-0 x a = rw zero-add
 
 module _ (i : ℕ) (x a : List ℕ) (h : i + length x ≤ length a) where
-  pub from-length : length (from i x a) ≡ length a
-  unfolding from
-  from-length = simp (length-append, length-drop, length-take-le i a (omega arith)) (omega arith)
-
   head-length : length (take i a ++ x) ≡ i + length x
   head-length = simp (length-append, length-take-le i a (omega arith))
 
@@ -76,7 +72,7 @@ module _ (i : ℕ) (x a : List ℕ) (h : i + length x ≤ length a) where
   pub from-from : (y : List ℕ) → from (i + length x) y (from i x a) ≡ from i (x ++ y) a
   from-from y = glued (from i x a) y from-take (from-rest y)
 
--- a part from place i on, filled, and put back: what follows it is no more than what the list has
+-- the part from place i to the end, with x over its beginning, put back into the list
 pub filled : (i : ℕ) (x a b : List ℕ) → i + length x ≤ length a
     → b ≡ pick (leb (length x) (length (midOf i (length a - i) a))) (x ++ drop (length x) (midOf i (length a - i) a)) (midOf i (length a - i) a)
     → putMid i (length a - i) a b ≡ from i x a

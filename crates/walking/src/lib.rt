@@ -11,7 +11,7 @@ pub enum Walked {
     Refused(u16),
 }
 
-// Writes the first len items of word into out, from place at on.
+// Writes the first len items of word into out from place at on, and gives the place after them.
 fn write(out: &mut [u16], at: usize, word: &[u16], len: usize) -> usize
     requires { ⌜ (at + len ≤ length (now out)) × (len ≤ length (now word)) ⌝ }
     ensures { λ r. ⌜ (r ≡ at + len) × (now (out .exit) ≡ from at (take len (now (word .entry))) (now (out .entry))) ⌝ }
@@ -20,14 +20,14 @@ fn write(out: &mut [u16], at: usize, word: &[u16], len: usize) -> usize
     at + len
 }
 
-// Edges pending and labels free.
+// The height of the stack and the number of labels free.
 struct Left {
     h: u16,
     f: u16,
 }
 
-// What the event e leaves, with h edges pending besides the one it popped. Where e cannot be, it is an empty stack and a label
-// free, from which no word is written.
+// What the event e leaves, with h edges pending besides the one it popped. Where F or B lacks labels, that is an empty stack with
+// a label free: a dead end, so the branching needs no test.
 fn after(e: u16, h: u16, f: u16) -> Left
     requires { ⌜ (e < h + 3) × (h < 1000) ⌝ }
     ensures { λ r. ⌜ Leads e h f (r .h) (r .f) ⌝ }
@@ -52,7 +52,7 @@ fn after(e: u16, h: u16, f: u16) -> Left
     }
 }
 
-// Branches on the events W, F, B, J0, J1, .. for an edge that is popped already.
+// Branches on the events W, F, B, J0, J1, .. of an edge that is popped already; h edges are pending besides it.
 fn branch(out: &mut [u16], at: usize, word: &mut [u16], len: usize, h: u16, f: u16) -> usize
     requires { ⌜ Room (now out) at (now word) len (suc h) f ⌝ }
     ensures { λ r. ⌜ Added (now (out .entry)) at (now (word .entry)) len (suc h) f (now (out .exit)) (now (word .exit)) r ⌝ }
@@ -68,7 +68,7 @@ fn branch(out: &mut [u16], at: usize, word: &mut [u16], len: usize, h: u16, f: u
     end
 }
 
-// Ends the word where nothing is pending, and writes it where no label is free either; otherwise pops an edge.
+// Ends the word if no edge is pending, and writes it if no label is free either; otherwise pops an edge.
 fn end_or_pop(out: &mut [u16], at: usize, word: &mut [u16], len: usize, h: u16, f: u16) -> usize
     requires { ⌜ Room (now out) at (now word) len h f ⌝ }
     ensures { λ r. ⌜ Added (now (out .entry)) at (now (word .entry)) len h f (now (out .exit)) (now (word .exit)) r ⌝ }
@@ -84,7 +84,7 @@ fn end_or_pop(out: &mut [u16], at: usize, word: &mut [u16], len: usize, h: u16, 
     }
 }
 
-// Writes all words of size n, one after another.
+// Writes all words of size n, one after another: those that begin with U, then those that begin with T.
 pub fn plain_walk(n: u64, out: &mut [u16]) -> Walked
     ensures { λ r. ⌜ Wrote n (now (out .entry)) (now (out .exit)) r ⌝ }
 {

@@ -1,40 +1,31 @@
+-- `after` meets its contract: each arm is the law of where its event leads.
 use borrow.Author.Needs.{needs}
 use native.Mathlib.Omega.{arith}
 use Rattle.walking.proofs.Rest.{leads-W, leads-F, leads-no-F, leads-B, leads-no-B, leads-J}
 use Rattle.walking.proofs.after.Statement.{statement}
 use Rattle.walking.proofs.after.Tie as tie
-use Rattle.walking.proofs.after.Reads as reads
-use Rattle.walking.proofs.after.Lts as lts
 
--- src/lib.rt:39:27
 add-t7 : tie.Need-add-t7
 add-t7 c = search needs
 
--- src/lib.rt:51:24
 sub-t12 : tie.Need-sub-t12
 sub-t12 c = search needs
 
--- src/lib.rt:31:1
 returns : tie.Need-returns
 returns c = rw (c .match .keys1) (leads-W _ _)
 
--- src/lib.rt:31:1
 returns-2 : tie.Need-returns-2
-returns-2 c = rw (c .before .match .keys2) (leads-F _ _ (c .if1 .taken))
+returns-2 c = rw (c .before .match .keys2) (leads-F _ _ (omega arith))
 
--- src/lib.rt:31:1
 returns-3 : tie.Need-returns-3
-returns-3 c = rw (c .before .match .keys2) (leads-no-F _ _ (c .if1 .left))
+returns-3 c = rw (c .before .match .keys2) (leads-no-F _ _ (omega arith))
 
--- src/lib.rt:31:1
 returns-4 : tie.Need-returns-4
-returns-4 c = rw (c .before .match .keys3) (leads-B _ _ (c .if2 .taken))
+returns-4 c = rw (c .before .match .keys3) (leads-B _ _ (omega arith))
 
--- src/lib.rt:31:1
 returns-5 : tie.Need-returns-5
-returns-5 c = rw (c .before .match .keys3) (leads-no-B _ _ (c .if2 .left))
+returns-5 c = rw (c .before .match .keys3) (leads-no-B _ _ (omega arith))
 
--- src/lib.rt:31:1
 returns-6 : tie.Need-returns-6
 returns-6 c = leads-J _ _ _ (omega (arith, c .match .rest .0 .0 .1, c .match .rest .0 .1, c .match .rest .1)) (omega arith)
 

@@ -1,3 +1,4 @@
+-- `plain_walk` meets its promise: the two calls write the words that begin with U and those that begin with T, which together are the listing.
 use borrow.Author.Needs.{needs}
 use mathlib.Core.Path.{refl}
 use mathlib.Core.Logic.{inl, inr, ⊎-elim}
@@ -6,67 +7,51 @@ use borrow.Author.Tests.{ltb-true}
 use Rattle.walking.proofs.Sizes.{first-room, wrote-U, second-room, wrote-both}
 use Rattle.walking.proofs.plain_walk.Statement.{statement}
 use Rattle.walking.proofs.plain_walk.Tie as tie
-use Rattle.walking.proofs.plain_walk.Reads as reads
-use Rattle.walking.proofs.plain_walk.Lts as lts
-use Rattle.walking.proofs.end_or_pop.Reads as end-or-pop-reads
 
--- src/lib.rt:92:9
 returns : tie.Need-returns
 returns c = (inl (refl, ⊎-elim (λ w e. omega arith) (λ w e. omega (arith, ltb-true 9 (c .before .before .args .n) (w .1 .taken))) (c .if1 .came)), refl)
 
--- src/lib.rt:95:9
 returns-2 : tie.Need-returns-2
 returns-2 c = (inr (refl, search needs, c .if3 .taken), refl)
 
--- src/lib.rt:97:16
 cast-size : tie.Need-cast-size
 cast-size c = search needs
 
--- src/lib.rt:99:34
 slice-aggregate-end-or-pop : tie.Need-slice-aggregate-end-or-pop
 slice-aggregate-end-or-pop c = search needs
 
--- src/lib.rt:99:51
 sub-end-or-pop : tie.Need-sub-end-or-pop
 sub-end-or-pop c = search needs
 
--- src/lib.rt:99:9
 end-or-pop-requires : tie.Need-end-or-pop-requires
 end-or-pop-requires c κs =
     let s = c .before .before .before .before .before .before in
     first-room (s .args .n) (search needs) (s .args .out .now) (c .before .before .if3 .left) _ refl
 
--- src/lib.rt:101:9
 same-length : tie.Need-same-length
 same-length c = search needs
 
--- src/lib.rt:101:9
 returns-3 : tie.Need-returns-3
 returns-3 c =
     let s = c .before .before .before .before .before .before .before .before .before .before .before in
     let p = c .before .before .before .before .end-or-pop in
     wrote-U (s .args .n) (search needs) (s .args .out .now) (c .before .before .before .before .before .before .before .if3 .left) _ _ _ _ (p .ensures) (c .if4 .taken)
 
--- src/lib.rt:103:5
 array-write-word : tie.Need-array-write-word
 array-write-word c = search needs
 
--- src/lib.rt:104:42
 slice-aggregate-end-or-pop-2 : tie.Need-slice-aggregate-end-or-pop-2
 slice-aggregate-end-or-pop-2 c = search needs
 
--- src/lib.rt:104:21
 end-or-pop-requires-2 : tie.Need-end-or-pop-requires-2
 end-or-pop-requires-2 c κs =
     let s = c .before .before .before .before .before .before .before .before .before .before .before .before .before in
     let p = c .before .before .before .before .before .before .end-or-pop in
     second-room (s .args .n) (search needs) (s .args .out .now) (c .before .before .before .before .before .before .before .before .before .if3 .left) _ _ _ _ (p .ensures) (c .before .before .if4 .left) (p .kept .0) (p .kept .1 .1 .0)
 
--- src/lib.rt:88:1
 same-length-2 : tie.Need-same-length-2
 same-length-2 c = search needs
 
--- src/lib.rt:88:1
 returns-4 : tie.Need-returns-4
 returns-4 c =
     let s = c .before .before .before .before .before .before .before .before .before .before .before .before .before .before .before .before .before in

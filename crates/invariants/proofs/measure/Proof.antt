@@ -1,0 +1,96 @@
+use borrow.Author.Needs.{needs}
+use native.Mathlib.Omega.{arith}
+use mathlib.Core.Path.{_≡_, ap, _∙_}
+use mathlib.Core.List.{List}
+use Prim.Native.Nat.{ℕ}
+use lib.ListN.{length}
+use mir.Syntax.{w32}
+use mir.ValLaws.{toZ-ofZ}
+use Rattle.lists.specs.Lists.{at}
+use Rattle.cycles.specs.Cycles.{cycles, fixes, around}
+use Rattle.cycles.proofs.Cycles.{fixes-most, cycles-most}
+use Rattle.invariants.proofs.Differences.{t-of}
+use Rattle.invariants.proofs.measure.Statement.{statement}
+use Rattle.invariants.proofs.measure.Tie as tie
+use Rattle.invariants.proofs.measure.Reads as reads
+use Rattle.invariants.proofs.measure.Lts as lts
+use Rattle.invariants.proofs.count_cycles.Reads as count-cycles-reads
+use Rattle.invariants.proofs.fixed.Reads as fixed-reads
+use Rattle.invariants.proofs.t.Reads as t-reads
+use Rattle.lists.proofs.wide.Reads as wide-reads
+
+-- src/lib.rt:127:9
+fixed-requires : tie.Need-fixed-requires
+fixed-requires c κs = search needs
+
+-- src/lib.rt:128:9
+fixed-requires-2 : tie.Need-fixed-requires-2
+fixed-requires-2 c κs = search needs
+
+-- src/lib.rt:129:9
+count-cycles-requires : tie.Need-count-cycles-requires
+count-cycles-requires c κs = search needs
+
+-- src/lib.rt:131:25
+wide-requires : tie.Need-wide-requires
+wide-requires c κs = search needs
+
+-- src/lib.rt:131:35
+wide-requires-2 : tie.Need-wide-requires-2
+wide-requires-2 c κs = search needs
+
+-- src/lib.rt:131:45
+wide-requires-3 : tie.Need-wide-requires-3
+wide-requires-3 c κs = search needs
+
+-- the calls' results are the definitions
+module _ (c : tie.After-wide3) where
+  abbrev s0 : List ℕ
+  s0 = c .before .before .before .before .before .before .before .before .args .s0 .now
+
+  abbrev s1 : List ℕ
+  s1 = c .before .before .before .before .before .before .before .before .args .s1 .now
+
+  e2-is : _≡_ {A = ℕ} (c .before .before .before .before .before .fixed .result) (fixes (length s0) (at s1))
+  e2-is = c .before .before .before .before .before .fixed .ensures ∙ ap (λ n. fixes n (at s1)) (c .before .before .before .before .before .before .before .before .pre .lengths)
+
+  e3-is : _≡_ {A = ℕ} (c .before .before .before .before .fixed2 .result) (fixes (length s0) (at s0))
+  e3-is = c .before .before .before .before .fixed2 .ensures
+
+  c-is : _≡_ {A = ℕ} (c .before .before .before .count-cycles .result .count) (cycles (length s0) (around (at s0) (at s1)))
+  c-is = c .before .before .before .count-cycles .ensures .0
+
+t-requires : tie.Need-t-requires
+t-requires c κs =
+    let a = fixes-most (length (s0 c)) (at (s1 c)) in
+    let b = fixes-most (length (s0 c)) (at (s0 c)) in
+    let d = cycles-most (length (s0 c)) (around (at (s0 c)) (at (s1 c))) in
+    omega (arith, e2-is c, e3-is c, c-is c, c .before .before .wide .ensures, c .before .wide2 .ensures, c .wide3 .ensures, c .before .before .before .before .before .before .before .before .pre .size)
+
+returns : tie.Need-returns
+returns c = record {
+  e2-is = e2-is (c .before);
+  e3-is = e3-is (c .before);
+  c-is = c-is (c .before);
+  t-is =
+      toZ-ofZ w32 (c .t .result) record { sfits = c .t .ok }
+      ∙ c .t .ensures
+      ∙ t-of (length (s0 (c .before))) (at (s0 (c .before))) (at (s1 (c .before))) _ _ _
+      (c .before .before .before .wide .ensures ∙ e2-is (c .before))
+      (c .before .before .wide2 .ensures ∙ e3-is (c .before))
+      (c .before .wide3 .ensures ∙ c-is (c .before));
+  level-is = c .before .before .before .before .count-cycles .ensures .1;
+}
+
+pub measure-spec : {M : Type 1} → statement M
+measure-spec =
+    tie.close
+    (tie.spec
+    fixed-requires
+    fixed-requires-2
+    count-cycles-requires
+    wide-requires
+    wide-requires-2
+    wide-requires-3
+    t-requires
+    returns)
