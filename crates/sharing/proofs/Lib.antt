@@ -4,3 +4,5 @@ pub mod Accepted
 pub mod Ledger
 pub mod CallLaws
 pub mod Tickets
+pub mod Entries
+pub mod Counts

@@ -2,3 +2,4 @@ pub mod Shares
 pub mod Holding
 pub mod Sound
 pub mod Calls
+pub mod Entries

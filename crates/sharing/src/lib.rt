@@ -1,4 +1,7 @@
 // The share book.
+pub mod shares;
+pub mod soundness;
+pub mod tests;
 pub mod types;
 
 pub use types::Book;
