@@ -1,4 +1,4 @@
--- Laws of the pile and of writing over the beginning of a list.
+-- Laws of a word's items, of the pile, and of writing over the beginning of a list.
 use mathlib.Core.Path.{_≡_, refl, sym, ap, _∙_}
 use mathlib.Core.Logic.{_≢_, _⊎_, inl, inr}
 use mathlib.Core.List.{List, [], _∷_, _++_, append-assoc}
@@ -18,6 +18,13 @@ use Rattle.writing.specs.Midway.{three, Piled, Shifted}
 -- the items from place i on begin with the one there
 pub next-item : (w : List ℕ) (i : ℕ) → i < length w → drop i w ≡ getD w i 0 ∷ drop (i + 1) w
 next-item w i l = rw add-one (drop-cons w i 0 l)
+
+-- an item that is not W, F or B is Jd
+pub jump-item : (x d : ℕ) → (x ≡ 0 → ⊥) → (x ≡ 1 → ⊥) → (x ≡ 2 → ⊥) → d ≡ x - 3 → x ≡ suc (suc (suc d))
+jump-item zero d a b e f = absurd (a refl)
+jump-item (suc zero) d a b e f = absurd (b refl)
+jump-item (suc (suc zero)) d a b e f = absurd (e refl)
+jump-item (suc (suc (suc x))) d a b e f = omega arith
 
 -- ---- the pile
 

@@ -1,18 +1,11 @@
 -- `event` takes the lists and the pile from before an item to after it: the law of the item's event, at the label that is popped.
 use borrow.Author.Needs.{needs}
 use native.Mathlib.Omega.{arith}
-use mathlib.Core.Path.{_≡_, refl}
-use Prim.Native.Nat.{ℕ, zero, suc, _-_}
+use mathlib.Core.Path.{refl}
+use Rattle.writing.proofs.Lists.{jump-item}
 use Rattle.writing.proofs.Laws.{pending-some, popped, midway-W, room-F, midway-F, room-B, midway-B, room-J, midway-J}
 use Rattle.writing.proofs.event.Statement.{statement}
 use Rattle.writing.proofs.event.Tie as tie
-
--- an item that is not W, F or B is Jd
-is-J : (x d : ℕ) → (x ≡ 0 → ⊥) → (x ≡ 1 → ⊥) → (x ≡ 2 → ⊥) → d ≡ x - 3 → x ≡ suc (suc (suc d))
-is-J zero d a b e f = absurd (a refl)
-is-J (suc zero) d a b e f = absurd (b refl)
-is-J (suc (suc zero)) d a b e f = absurd (e refl)
-is-J (suc (suc (suc x))) d a b e f = omega arith
 
 sub-h : tie.Need-sub-h
 sub-h c = let (D, w, a0, a1, M) = c .before .before .pre in let i = pending-some _ _ _ _ _ _ _ _ _ _ M in omega arith
@@ -47,13 +40,13 @@ wide-requires c κs = search needs
 jump-requires : tie.Need-jump-requires
 jump-requires c κs =
     let (D, w, a0, a1, M) = c .before .before .before .before .before .before .before .pre in
-    let i = room-J _ _ _ _ _ _ _ _ _ _ _ _ (is-J _ _ (c .before .before .before .match .rest .0 .0 .1) (c .before .before .before .match .rest .0 .1) (c .before .before .before .match .rest .1) (c .wide .ensures)) (popped _ _ _ _ _ _ _ _ _ _ _ M refl) in
+    let i = room-J _ _ _ _ _ _ _ _ _ _ _ _ (jump-item _ _ (c .before .before .before .match .rest .0 .0 .1) (c .before .before .before .match .rest .0 .1) (c .before .before .before .match .rest .1) (c .wide .ensures)) (popped _ _ _ _ _ _ _ _ _ _ _ M refl) in
     (i .0, omega (arith, i .1), i .2, i .3, i .4)
 
 sub-t32 : tie.Need-sub-t32
 sub-t32 c =
     let (D, w, a0, a1, M) = c .before .before .before .before .before .before .before .before .before .before .pre in
-    let i = room-J _ _ _ _ _ _ _ _ _ _ _ _ (is-J _ _ (c .before .before .before .before .before .before .match .rest .0 .0 .1) (c .before .before .before .before .before .before .match .rest .0 .1) (c .before .before .before .before .before .before .match .rest .1) (c .before .before .before .wide .ensures)) (popped _ _ _ _ _ _ _ _ _ _ _ M refl) in
+    let i = room-J _ _ _ _ _ _ _ _ _ _ _ _ (jump-item _ _ (c .before .before .before .before .before .before .match .rest .0 .0 .1) (c .before .before .before .before .before .before .match .rest .0 .1) (c .before .before .before .before .before .before .match .rest .1) (c .before .before .before .wide .ensures)) (popped _ _ _ _ _ _ _ _ _ _ _ M refl) in
     omega (arith, i .0)
 
 returns : tie.Need-returns
@@ -82,7 +75,7 @@ same-length-5 c = search needs
 
 returns-4 : tie.Need-returns-4
 returns-4 c = λ D w a0 a1 M.
-    let e = is-J _ _ (c .before .before .before .before .before .before .match .rest .0 .0 .1) (c .before .before .before .before .before .before .match .rest .0 .1) (c .before .before .before .before .before .before .match .rest .1) (c .before .before .before .wide .ensures) in
+    let e = jump-item _ _ (c .before .before .before .before .before .before .match .rest .0 .0 .1) (c .before .before .before .before .before .before .match .rest .0 .1) (c .before .before .before .before .before .before .match .rest .1) (c .before .before .before .wide .ensures) in
     rw (c .before .before .jump .ensures .1) (midway-J _ _ _ _ _ _ _ _ _ _ _ _ e (popped _ _ _ _ _ _ _ _ _ _ _ M refl) _ (c .before .before .jump .ensures .0))
 
 pub event-spec : {M : Type 1} → statement M
