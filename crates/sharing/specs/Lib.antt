@@ -3,3 +3,4 @@ pub mod Holding
 pub mod Sound
 pub mod Calls
 pub mod Entries
+pub mod Asking

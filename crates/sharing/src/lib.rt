@@ -1,6 +1,8 @@
 // The share book.
 pub mod shares;
+pub mod progress;
 pub mod soundness;
+pub mod standing;
 pub mod tests;
 pub mod types;
 

@@ -1,19 +1,11 @@
 use borrow.Author.Needs.{needs}
-use mathlib.Core.Path.{_≡_}
-use Prim.Native.Nat.{ℕ, _*_, _/_, _^_, _≤_, _<_}
-use native.Mathlib.Nat.{mul-le-mul, div-le-self}
 use native.Mathlib.Omega.{arith}
 use Rattle.sharing.specs.Shares.{last}
+use Rattle.sharing.proofs.Counts.{product-small, quotient-small}
 use Rattle.sharing.proofs.shares.last_of.Statement.{statement}
 use Rattle.sharing.proofs.shares.last_of.Tie as tie
 use Rattle.sharing.proofs.shares.last_of.Reads as reads
 use Rattle.sharing.proofs.shares.last_of.Lts as lts
-
-product-small : (total j : ℕ) → total < 2 ^ 50 → j ≤ 32 → j * total ≤ 2 ^ 55
-product-small total j h l = let q = mul-le-mul l h in omega arith
-
-quotient-small : (total k j : ℕ) → total < 2 ^ 50 → j ≤ 32 → j * total / k < 2 ^ 56
-quotient-small total k j h l = let p = product-small total j h l in let q = div-le-self (j * total) k in omega arith
 
 -- src/shares.rt:27:5
 mul-result : tie.Need-mul-result
