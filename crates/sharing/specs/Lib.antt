@@ -4,3 +4,4 @@ pub mod Sound
 pub mod Calls
 pub mod Entries
 pub mod Asking
+pub mod Claims

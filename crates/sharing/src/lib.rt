@@ -1,4 +1,7 @@
 // The share book.
+pub mod books;
+pub mod claims;
+pub mod cores;
 pub mod shares;
 pub mod progress;
 pub mod soundness;

@@ -1,10 +1,11 @@
 // The positions that a share holds.
+use crate::types::Book;
 ghost use mathlib.Core.Path.{_≡_};
 ghost use Prim.Native.Nat.{ℕ, _<_, _≤_, _^_};
 ghost use Rattle.lists.specs.Lists.{at};
 ghost use Rattle.lists.specs.Ranges.{Edge};
 ghost use Rattle.counting.specs.Listing.{count};
-ghost use Rattle.sharing.specs.Shares.{last};
+ghost use Rattle.sharing.specs.Shares.{last, finished};
 
 // The count of a listed size.
 pub fn count_of(size: u64) -> u64
@@ -33,4 +34,13 @@ pub fn entry(list: &[u64; 32], j: u64) -> u64
     ensures { λ r. ⌜ r ≡ at (now (list .entry)) j ⌝ }
 {
     list[(j - 1) as usize]
+}
+
+// Share j's next position is past its last.
+pub fn finished(b: Book, j: u64) -> bool
+    requires { ⌜ Edge 50 (b .size) × Edge 32 (b .shares) × Edge 32 j ⌝ }
+    ensures { λ r. ⌜ r ≡ finished b j ⌝ }
+{
+    let last = last_of(count_of(b.size), b.shares, j);
+    last < entry(&b.next, j)
 }
