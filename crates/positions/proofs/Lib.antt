@@ -2,3 +2,4 @@ pub mod EventBlocks
 pub mod Choices
 pub mod Passing
 pub mod Places
+pub mod Answers

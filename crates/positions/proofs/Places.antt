@@ -1,21 +1,21 @@
 -- The word at a position by unranking and the position of a word by ranking: the listing is the words that begin with U, then those with T.
 use mathlib.Core.Path.{_≡_, refl, sym, ap, _∙_}
 use mathlib.Core.Logic.{_⊎_, inl, inr}
-use mathlib.Core.List.{List, [], _∷_, _++_}
-use Prim.Native.Nat.{ℕ, zero, suc, _+_, _*_, _-_, _^_, _≤_, _<_}
+use mathlib.Core.List.{List, [], _∷_}
+use Prim.Native.Nat.{ℕ, zero, suc, _+_, _-_, _^_, _≤_, _<_}
 use native.Mathlib.Nat.{not-suc-le-zero}
 use native.Mathlib.Omega.{arith}
 use lib.ListN.{length, getD, set, take, drop, List·getD-append}
 use lib.Seq.{getD-append-add, take-length}
 use Rattle.lists.specs.Ranges.{Edge}
 use Rattle.lists.proofs.Tests.{lt?}
-use Rattle.words.specs.Shape.{less1, less3, Fits, Word}
+use Rattle.words.specs.Shape.{Fits, Word}
 use Rattle.words.specs.Word.{Spells}
 use Rattle.words.proofs.Shape.{spells-word}
 use Rattle.writing.proofs.Lists.{over-one}
 use Rattle.counting.specs.Listing.{each, tails, listing, ways, count}
 use Rattle.counting.specs.Position.{wordAt, position}
-use Rattle.counting.specs.Ranking.{unranked, rank}
+use Rattle.counting.specs.Ranking.{rank}
 use Rattle.counting.proofs.Tails.{length-each, length-tails, ways-by}
 use Rattle.counting.proofs.Listing.{counted}
 use Rattle.counting.proofs.Ranking.{at-place, placed}
@@ -84,7 +84,8 @@ begun-U (suc f) (suc i) a e q r l =
       enough = omega arith;
       room = omega arith;
       region = omega arith;
-      within = b }
+      within = b;
+    }
 
 -- otherwise T
 pub T-some : (n p : ℕ) → Edge 50 n → Edge (count n) p → ways 1 (n - 1) ≤ p - 1 → (3 ≤ n) × (p - 1 - ways 1 (n - 1) < ways 3 (n - 3))
@@ -116,7 +117,8 @@ begun-T n p a e q r l = let s = T-some n p e q l in go n p e (q .0) r l (s .0) (
           enough = omega arith;
           room = omega arith;
           region = omega arith;
-          within = b′ }
+          within = b′;
+        }
 
 -- ---- the position of a word
 

@@ -5,10 +5,14 @@ mod ranking;
 mod unranking;
 
 use canonical::Relabelling;
+use lists::wide;
 ghost use mathlib.Core.Path.{_≡_};
-ghost use Prim.Native.Nat.{ℕ};
+ghost use lib.ListN.{length};
 ghost use Rattle.lists.specs.Ranges.{Edge};
+ghost use Rattle.words.specs.Outputs.{Short, Written};
 ghost use Rattle.counting.specs.Listing.{count};
+ghost use Rattle.counting.specs.Position.{wordAt};
+ghost use Rattle.counting.specs.Diagrams.{diagramAt};
 ghost use Rattle.positions.specs.Promises.{Counted, Given, Located};
 
 pub enum Total {
@@ -50,4 +54,68 @@ pub fn count(n: u64) -> Total
         return Total::Refused(31);
     }
     Total::Number(count_of(n))
+}
+
+// Writes the diagram at a position that there is, with its word, into lists that are long enough.
+fn write_at(n: u64, p: u64, s0: &mut [u16], s1: &mut [u16], word: &mut [u16]) -> u16
+    requires { ⌜ Edge 50 n × Edge (count n) p × (¬ Short n (now s0) (now s1) (now word)) ⌝ }
+    ensures { λ r. ⌜ (r ≡ length (wordAt n p))
+        × Written (diagramAt n p) (wordAt n p) (now (s0 .entry)) (now (s1 .entry)) (now (word .entry)) (now (s0 .exit)) (now (s1 .exit)) (now (word .exit)) ⌝ }
+{
+    let m = unranking::word_at(n, p, word);
+    writing::write_diagram(&word[..m], s0, s1);
+    m as u16
+}
+
+// Writes the diagram at position p of size n, which has root 1 and is in its characteristic labelling, and its word, whose length
+// it returns. Refuses 31; 32, a position that is 0 or above the count; 9, an output list that is short (n, n, and n + 1).
+pub fn diagram_at(n: u64, p: u64, s0: &mut [u16], s1: &mut [u16], word: &mut [u16]) -> Entry
+    ensures { λ r. ⌜ Given n p (now (s0 .entry)) (now (s1 .entry)) (now (word .entry)) (now (s0 .exit)) (now (s1 .exit)) (now (word .exit)) r ⌝ }
+{
+    if n < 1 {
+        return Entry::Refused(31);
+    }
+    if 50 < n {
+        return Entry::Refused(31);
+    }
+    if p < 1 {
+        return Entry::Refused(32);
+    }
+    if count_of(n) < p {
+        return Entry::Refused(32);
+    }
+    let size = n as usize;
+    if s0.len() < size {
+        return Entry::Refused(9);
+    }
+    if s1.len() < size {
+        return Entry::Refused(9);
+    }
+    if word.len() <= size {
+        return Entry::Refused(9);
+    }
+    Entry::Length(write_at(n, p, s0, s1, word))
+}
+
+// The position of a diagram: that of its word among the words of its size. Refuses 1 to 8 as check does, then 31. The lists lent to
+// relabel hold 50 edges, so that its refusal of short lists, which comes after 1 to 8, is that of a size above 50.
+pub fn position(s0: &[u16], s1: &[u16], root: u64) -> Place
+    ensures { λ r. ⌜ Located (now (s0 .entry)) (now (s1 .entry)) root r ⌝ }
+{
+    let mut t0 = [0u16; 50];
+    let mut t1 = [0u16; 50];
+    let mut word = [0u16; 51];
+    let relabelled = canonical::relabel(s0, s1, root, &mut t0, &mut t1, &mut word);
+    match relabelled {
+        Relabelling::Refused(k) => {
+            if k == 9 {
+                return Place::Refused(31);
+            }
+            Place::Refused(k)
+        }
+        Relabelling::Length(length) => {
+            let m = wide(length);
+            Place::Number(ranking::position_of(s0.len(), &word[..m]))
+        }
+    }
 }

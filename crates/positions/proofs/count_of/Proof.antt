@@ -1,3 +1,4 @@
+-- `count_of` adds the words that begin with U and those that begin with T.
 use borrow.Author.Needs.{needs}
 use mathlib.Core.Path.{sym, _∙_}
 use Prim.Native.Nat.{_-_}
@@ -6,34 +7,25 @@ use Rattle.table.proofs.Table.{ways-small}
 use Rattle.positions.proofs.Places.{count-few, count-more}
 use Rattle.positions.proofs.count_of.Statement.{statement}
 use Rattle.positions.proofs.count_of.Tie as tie
-use Rattle.positions.proofs.count_of.Reads as reads
-use Rattle.positions.proofs.count_of.Lts as lts
-use Rattle.table.proofs.ways.Reads as ways-reads
 
--- src/lib.rt:35:33
 sub-ways : tie.Need-sub-ways
 sub-ways c = search needs
 
--- src/lib.rt:35:9
 ways-requires : tie.Need-ways-requires
 ways-requires c κs = search needs
 
--- src/lib.rt:37:9
 returns : tie.Need-returns
 returns c = c .before .ways .ensures .inside (omega arith) ∙ sym (count-few _ (omega arith) (c .if1 .taken))
 
--- src/lib.rt:39:14
 ways-requires-2 : tie.Need-ways-requires-2
 ways-requires-2 c κs = search needs
 
--- src/lib.rt:39:5
 add-result : tie.Need-add-result
 add-result c =
     let a = c .before .before .ways .ensures .inside (omega arith) in
     let b = c .ways2 .ensures .inside (omega arith) in
     omega (arith, ways-small 1 (c .before .before .before .args .size - 1) (omega arith), ways-small 3 (c .before .before .before .args .size - 3) (omega arith))
 
--- src/lib.rt:30:1
 returns-2 : tie.Need-returns-2
 returns-2 c =
     let a = c .before .before .ways .ensures .inside (omega arith) in

@@ -1,22 +1,17 @@
+-- `buds` looks up the block of B where there is a label free.
 use borrow.Author.Needs.{needs}
 use mathlib.Core.Path.{sym, _∙_}
 use native.Mathlib.Omega.{arith}
 use Rattle.positions.proofs.EventBlocks.{buds-few, buds-more}
 use Rattle.positions.proofs.blocks.buds.Statement.{statement}
 use Rattle.positions.proofs.blocks.buds.Tie as tie
-use Rattle.positions.proofs.blocks.buds.Reads as reads
-use Rattle.positions.proofs.blocks.buds.Lts as lts
-use Rattle.table.proofs.ways.Reads as ways-reads
 
--- src/blocks.rt:21:9
 returns : tie.Need-returns
 returns c = sym (buds-few _ _ (c .if1 .taken))
 
--- src/blocks.rt:23:5
 ways-requires : tie.Need-ways-requires
 ways-requires c κs = search needs
 
--- src/blocks.rt:16:1
 returns-2 : tie.Need-returns-2
 returns-2 c = c .ways .ensures .inside (omega arith) ∙ sym (buds-more _ _ (c .before .if1 .left))
 

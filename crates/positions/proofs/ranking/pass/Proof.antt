@@ -1,5 +1,6 @@
+-- `pass` answers the block of an item: the law of the item's event.
 use borrow.Author.Needs.{needs}
-use mathlib.Core.Path.{_≡_, sym, _∙_}
+use mathlib.Core.Path.{_≡_}
 use mathlib.Core.List.{List, _∷_}
 use Prim.Native.Nat.{ℕ, suc, _-_}
 use native.Mathlib.Omega.{arith}
@@ -8,87 +9,65 @@ use Rattle.writing.proofs.Lists.{jump-item}
 use Rattle.positions.proofs.Passing.{height-some, passed-W, free-F, passed-F, free-B, passed-B, sum-B, item-J, from-J}
 use Rattle.positions.proofs.ranking.pass.Statement.{statement}
 use Rattle.positions.proofs.ranking.pass.Tie as tie
-use Rattle.positions.proofs.ranking.pass.Reads as reads
-use Rattle.positions.proofs.ranking.pass.Lts as lts
-use Rattle.lists.proofs.wide.Reads as wide-reads
-use Rattle.positions.proofs.blocks.forks.Reads as forks-reads
-use Rattle.positions.proofs.ranking.jumped.Reads as jumped-reads
-use Rattle.table.proofs.ways.Reads as ways-reads
 
 popped : (height f x : ℕ) (w : List ℕ) → Fits height f (x ∷ w) → height ≡ suc (height - 1)
 popped height f x w a = let i = height-some height f x w a in omega arith
 
--- src/ranking.rt:36:13
 sub-h : tie.Need-sub-h
 sub-h c = let (w, a) = c .pre .0 in height-some _ _ _ w a
 
--- src/ranking.rt:39:30
 ways-requires : tie.Need-ways-requires
 ways-requires c κs = search needs
 
--- src/ranking.rt:39:60
 add-t7 : tie.Need-add-t7
 add-t7 c = search needs
 
--- src/ranking.rt:39:73
 sub-t8 : tie.Need-sub-t8
 sub-t8 c = let (w, a) = c .before .before .pre .0 in free-F _ _ _ w (popped _ _ _ w a) (c .before .before .pre .1) (rw (c .before .match .keys2) at a)
 
--- src/ranking.rt:40:30
 ways-requires-2 : tie.Need-ways-requires-2
 ways-requires-2 c κs = search needs
 
--- src/ranking.rt:40:53
 forks-requires : tie.Need-forks-requires
 forks-requires c κs =
     let (w, a) = c .before .before .pre .0 in
     let i = popped (c .before .before .args .height) (c .before .before .args .free) (c .before .before .args .item) w a in
     omega arith
 
--- src/ranking.rt:40:30
 add-t11 : tie.Need-add-t11
 add-t11 c =
     let (w, a) = c .before .before .before .pre .0 in
     omega (arith, c .before .ways2 .ensures .inside (omega arith), c .forks .ensures, sum-B _ _ _ w (popped _ _ _ w a) (c .before .before .before .pre .1) (rw (c .before .before .match .keys3) at a))
 
--- src/ranking.rt:40:86
 sub-t12 : tie.Need-sub-t12
 sub-t12 c = let (w, a) = c .before .before .before .pre .0 in free-B _ _ _ w (popped _ _ _ w a) (c .before .before .before .pre .1) (rw (c .before .before .match .keys3) at a)
 
--- src/ranking.rt:41:35
 sub-wide : tie.Need-sub-wide
 sub-wide c = search needs
 
--- src/ranking.rt:41:30
 wide-requires : tie.Need-wide-requires
 wide-requires c κs = search needs
 
--- src/ranking.rt:41:14
 jumped-requires : tie.Need-jumped-requires
 jumped-requires c κs =
     let (w, a) = c .before .before .pre .0 in
     let i = popped (c .before .before .args .height) (c .before .before .args .free) (c .before .before .args .item) w a in
     ((w, item-J _ _ _ _ _ w i (jump-item _ _ (c .before .match .rest .0 .0 .1) (c .before .match .rest .0 .1) (c .before .match .rest .1) (c .wide .ensures)) a), omega arith)
 
--- src/ranking.rt:31:1
 returns : tie.Need-returns
 returns c = λ w a. rw (c .match .keys1) (passed-W _ _ _ w (popped _ _ _ w a) (c .before .pre .1) (rw (c .match .keys1) at a))
 
--- src/ranking.rt:31:1
 returns-2 : tie.Need-returns-2
 returns-2 c = λ w a. rw (c .before .match .keys2, c .ways .ensures .inside (omega arith)) (passed-F _ _ _ w (popped _ _ _ w a) (c .before .before .pre .1) (rw (c .before .match .keys2) at a))
 
--- src/ranking.rt:31:1
 returns-3 : tie.Need-returns-3
 returns-3 c = λ w a. rw (c .before .before .match .keys3, c .before .ways2 .ensures .inside (omega arith), c .forks .ensures) (passed-B _ _ _ w (popped _ _ _ w a) (c .before .before .before .pre .1) (rw (c .before .before .match .keys3) at a))
 
--- src/ranking.rt:31:1
 returns-4 : tie.Need-returns-4
 returns-4 c = λ w a.
     let i = popped (c .before .before .before .args .height) (c .before .before .before .args .free) (c .before .before .before .args .item) w a in
     let q = jump-item _ _ (c .before .before .match .rest .0 .0 .1) (c .before .before .match .rest .0 .1) (c .before .before .match .rest .1) (c .before .wide .ensures) in
     from-J _ _ _ _ _ w i q _ _ _ (c .jumped .ensures w (item-J _ _ _ _ _ w i q a))
-
 
 pub pass-spec : {M : Type 1} → statement M
 pass-spec =

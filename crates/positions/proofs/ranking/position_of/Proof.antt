@@ -1,85 +1,62 @@
+-- `position_of`: the rank of the items after the first, among the words that begin with U or after all of them.
 use borrow.Author.Needs.{needs}
-use mathlib.Core.Path.{_≡_, sym, _∙_}
-use Prim.Native.Nat.{_-_}
 use native.Mathlib.Omega.{arith}
 use Rattle.writing.proofs.Laws.{word-some}
 use Rattle.positions.proofs.Places.{some-U, fits-U, sum-U, place-U, some-T, fits-T, sum-T, place-T}
 use Rattle.positions.proofs.ranking.position_of.Statement.{statement}
 use Rattle.positions.proofs.ranking.position_of.Tie as tie
-use Rattle.positions.proofs.ranking.position_of.Reads as reads
-use Rattle.positions.proofs.ranking.position_of.Lts as lts
-use Rattle.positions.proofs.ranking.rank.Reads as rank-reads
-use Rattle.table.proofs.ways.Reads as ways-reads
 
--- src/ranking.rt:70:11
 shared-slice-read-match : tie.Need-shared-slice-read-match
 shared-slice-read-match c = word-some _ _ (c .before .before .pre .0)
 
--- src/ranking.rt:71:19
 sub-rank : tie.Need-sub-rank
 sub-rank c = word-some _ _ (c .before .before .before .pre .0)
 
--- src/ranking.rt:71:19
 part-rank-start : tie.Need-part-rank-start
 part-rank-start c = word-some _ _ (c .before .before .before .pre .0)
 
--- src/ranking.rt:71:19
 part-rank-end : tie.Need-part-rank-end
 part-rank-end c = search needs
 
--- src/ranking.rt:71:34
 sub-rank-2 : tie.Need-sub-rank-2
 sub-rank-2 c = some-U _ _ (c .before .before .before .before .pre .0) (c .before .before .before .before .pre .1) (c .before .match .keys1)
 
--- src/ranking.rt:71:14
 rank-requires : tie.Need-rank-requires
 rank-requires c κs = let i = some-U _ _ (c .before .before .before .before .pre .0) (c .before .before .before .before .pre .1) (c .before .match .keys1) in (fits-U _ _ (c .before .before .before .before .pre .0) (c .before .before .before .before .pre .1) (c .before .match .keys1), omega arith)
 
--- src/ranking.rt:71:14
 add-result : tie.Need-add-result
 add-result c = omega (arith, c .rank .ensures, sum-U _ _ (c .before .before .before .before .before .pre .0) (c .before .before .before .before .before .pre .1) (c .before .before .match .keys1))
 
--- src/ranking.rt:72:29
 sub-ways : tie.Need-sub-ways
 sub-ways c = let i = some-T _ _ (c .before .before .before .pre .0) (c .before .before .before .pre .1) (c .match .rest .1) in omega arith
 
--- src/ranking.rt:72:14
 ways-requires : tie.Need-ways-requires
 ways-requires c κs = search needs
 
--- src/ranking.rt:72:46
 sub-rank-3 : tie.Need-sub-rank-3
 sub-rank-3 c = word-some _ _ (c .before .before .before .before .pre .0)
 
--- src/ranking.rt:72:46
 part-rank-start-2 : tie.Need-part-rank-start-2
 part-rank-start-2 c = word-some _ _ (c .before .before .before .before .pre .0)
 
--- src/ranking.rt:72:46
 part-rank-end-2 : tie.Need-part-rank-end-2
 part-rank-end-2 c = search needs
 
--- src/ranking.rt:72:61
 sub-rank-4 : tie.Need-sub-rank-4
 sub-rank-4 c = some-T _ _ (c .before .before .before .before .before .pre .0) (c .before .before .before .before .before .pre .1) (c .before .before .match .rest .1)
 
--- src/ranking.rt:72:41
 rank-requires-2 : tie.Need-rank-requires-2
 rank-requires-2 c κs = let i = some-T _ _ (c .before .before .before .before .before .pre .0) (c .before .before .before .before .before .pre .1) (c .before .before .match .rest .1) in (fits-T _ _ (c .before .before .before .before .before .pre .0) (c .before .before .before .before .before .pre .1) (c .before .before .match .rest .1), omega arith)
 
--- src/ranking.rt:72:14
 add-result-2 : tie.Need-add-result-2
 add-result-2 c = omega (arith, c .before .before .ways .ensures .inside (omega arith), c .rank2 .ensures, sum-T _ _ (c .before .before .before .before .before .before .pre .0) (c .before .before .before .before .before .before .pre .1) (c .before .before .before .match .rest .1))
 
--- src/ranking.rt:72:14
 add-result-3 : tie.Need-add-result-3
 add-result-3 c = omega (arith, c .before .before .ways .ensures .inside (omega arith), c .rank2 .ensures, sum-T _ _ (c .before .before .before .before .before .before .pre .0) (c .before .before .before .before .before .before .pre .1) (c .before .before .before .match .rest .1))
 
--- src/ranking.rt:66:1
 returns : tie.Need-returns
 returns c = omega (arith, c .rank .ensures, place-U _ _ (c .before .before .before .before .before .pre .0) (c .before .before .before .before .before .pre .1) (c .before .before .match .keys1))
 
--- src/ranking.rt:66:1
 returns-2 : tie.Need-returns-2
 returns-2 c = omega (arith, c .before .before .ways .ensures .inside (omega arith), c .rank2 .ensures, place-T _ _ (c .before .before .before .before .before .before .pre .0) (c .before .before .before .before .before .before .pre .1) (c .before .before .before .match .rest .1))
 

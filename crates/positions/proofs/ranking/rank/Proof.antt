@@ -1,18 +1,13 @@
+-- `rank` adds up the blocks before each item. The loop's invariant, `Ranked`: what is added so far and the rank of the items left are the rank.
 use borrow.Author.Needs.{needs}
-use mathlib.Core.Path.{_≡_, refl, sym, _∙_, ap}
-use mathlib.Core.List.{List}
-use Prim.Native.Nat.{ℕ, _+_, _*_, _-_, _≤_}
+use Prim.Native.Nat.{_+_, _-_, _≤_}
 use native.Mathlib.Omega.{arith}
 use lib.ListN.{length, drop, drop-of-length-le}
-use Rattle.words.specs.Shape.{Fits}
 use Rattle.counting.specs.Ranking.{rank}
 use Rattle.writing.proofs.Lists.{next-item}
 use Rattle.positions.proofs.Passing.{rank-small, Ranked, ranked-more, ranked-end}
 use Rattle.positions.proofs.ranking.rank.Statement.{statement}
 use Rattle.positions.proofs.ranking.rank.Tie as tie
-use Rattle.positions.proofs.ranking.rank.Reads as reads
-use Rattle.positions.proofs.ranking.rank.Lts as lts
-use Rattle.positions.proofs.ranking.pass.Reads as pass-reads
 
 abbrev Inv-loop : tie.InvT-loop
 Inv-loop items height free place₀ h₀ f₀ i₀ place h f i = (i ≤ length items) × Ranked (rank height free items) place h f (drop i items)
@@ -20,45 +15,36 @@ Inv-loop items height free place₀ h₀ f₀ i₀ place h f i = (i ≤ length i
 abbrev μ-loop : tie.MeasureT-loop
 μ-loop items height free place₀ h₀ f₀ i₀ place h f i = length items - i
 
--- src/ranking.rt:54:5
 loop-holds : tie.Need-loop-holds Inv-loop μ-loop
 loop-holds c = (search needs, record { sum = omega arith; fits = c .before .pre .0; region = c .before .pre .1 })
 
--- src/ranking.rt:55:32
 mul-pass : tie.Need-mul-pass Inv-loop μ-loop
 mul-pass c = search needs
 
--- src/ranking.rt:55:32
 shared-slice-read-pass : tie.Need-shared-slice-read-pass Inv-loop μ-loop
 shared-slice-read-pass c = search needs
 
--- src/ranking.rt:55:13
 pass-requires : tie.Need-pass-requires Inv-loop μ-loop
 pass-requires c κs =
     let R = rw (next-item (c .before .before .before .before .args .items .now) (c .before .before .loop .i) (omega arith)) at (c .before .before .loop .inv .1) in
     ((drop (c .before .before .loop .i + 1) (c .before .before .before .before .args .items .now), R .fits), R .region)
 
--- src/ranking.rt:56:9
 add-place : tie.Need-add-place Inv-loop μ-loop
 add-place c =
     let R = rw (next-item (c .before .before .before .before .before .before .args .items .now) (c .before .before .before .before .loop .i) (omega arith)) at (c .before .before .before .before .loop .inv .1) in
     omega (arith, ranked-more _ _ _ _ _ _ _ _ _ R (c .before .pass .ensures _ (R .fits)) .sum, rank-small (c .before .before .before .before .before .before .args .height) (c .before .before .before .before .before .before .args .free) (c .before .before .before .before .before .before .args .items .now) (c .before .before .before .before .before .before .pre .1) (c .before .before .before .before .before .before .pre .0))
 
--- src/ranking.rt:59:9
 add-i : tie.Need-add-i Inv-loop μ-loop
 add-i c = search needs
 
--- src/ranking.rt:54:5
 loop-less : tie.Need-loop-less Inv-loop μ-loop
 loop-less c = search needs
 
--- src/ranking.rt:54:5
 loop-again : tie.Need-loop-again Inv-loop μ-loop
 loop-again c =
     let R = rw (next-item (c .before .before .before .before .before .before .args .items .now) (c .before .before .before .before .loop .i) (omega arith)) at (c .before .before .before .before .loop .inv .1) in
     (search needs, ranked-more _ _ _ _ _ _ _ _ _ R (c .before .pass .ensures _ (R .fits)))
 
--- src/ranking.rt:46:1
 returns : tie.Need-returns Inv-loop μ-loop
 returns c = ranked-end _ _ _ _ (rw (drop-of-length-le (c .before .before .before .args .items .now) (c .loop-test .left)) at (c .before .loop .inv .1))
 
