@@ -5,3 +5,4 @@ pub mod Calls
 pub mod Entries
 pub mod Asking
 pub mod Claims
+pub mod Taken

@@ -2,6 +2,7 @@
 use crate::books::entered;
 use crate::books::moved;
 use crate::books::opened;
+use crate::books::ticked;
 use crate::claims::claim_number;
 use crate::progress::committed;
 use crate::progress::complete;
@@ -20,7 +21,11 @@ use crate::types::Opening;
 use crate::types::ReleaseDone;
 use crate::types::Releasing;
 use crate::types::Reporting;
+use crate::types::TakeDone;
+use crate::types::Taking;
+use positions::Entry;
 ghost use mathlib.Core.Path.{_≡_};
+ghost use Rattle.sharing.specs.Taken.{Taken};
 ghost use Rattle.sharing.specs.Calls.{open-answer, open-book, claim-answer, claim-book, commit-answer, commit-book, release-answer, release-book, report-answer};
 
 pub fn open_core(b: Book, size: u64, k: u64) -> OpenDone
@@ -74,6 +79,41 @@ pub fn release_core(b: Book, tick: u64, ticket: u64) -> ReleaseDone
             answer: Releasing::Released,
             book: entered(b, tick, b.issued, j, entry(&b.next, j), 0, 0),
         },
+    }
+}
+
+pub fn take_core(
+    b: Book,
+    tick: u64,
+    ticket: u64,
+    s0: &mut [u16],
+    s1: &mut [u16],
+    word: &mut [u16],
+) -> TakeDone
+    ensures { λ r. ⌜ Taken b tick ticket (now (s0 .entry)) (now (s1 .entry)) (now (word .entry)) (r .answer) (r .book) (now (s0 .exit)) (now (s1 .exit)) (now (word .exit)) ⌝ }
+{
+    match ask(b, tick, ticket) {
+        Asked::Refused(k) => TakeDone {
+            answer: Taking::Refused(k),
+            book: b,
+        },
+        Asked::Share(j) => {
+            let position = entry(&b.next, j);
+            match positions::diagram_at(b.size, position, s0, s1, word) {
+                Entry::Refused(k) => TakeDone {
+                    answer: Taking::Refused(k),
+                    book: b,
+                },
+                Entry::Length(m) => TakeDone {
+                    answer: Taking::Given {
+                        share: j,
+                        position,
+                        length: m as u64,
+                    },
+                    book: ticked(b, tick),
+                },
+            }
+        }
     }
 }
 

@@ -1,5 +1,6 @@
 // The positions that a share holds.
 use crate::types::Book;
+use positions::Total;
 ghost use mathlib.Core.Path.{_≡_};
 ghost use Prim.Native.Nat.{ℕ, _<_, _≤_, _^_};
 ghost use Rattle.lists.specs.Lists.{at};
@@ -12,12 +13,10 @@ pub fn count_of(size: u64) -> u64
     requires { ⌜ Edge 50 size ⌝ }
     ensures { λ r. ⌜ (r ≡ count size) × (r < 2 ^ 50) ⌝ }
 {
-    let n = size as usize;
-    let single = table::ways(1, n - 1);
-    if n < 3 {
-        return single;
+    match positions::count(size) {
+        Total::Number(n) => n,
+        Total::Refused(_) => 0,
     }
-    single + table::ways(3, n - 3)
 }
 
 // The last position of share j of k, the count being `total`.
