@@ -6,3 +6,4 @@ pub mod CallLaws
 pub mod Tickets
 pub mod Entries
 pub mod Counts
+pub mod Lent
