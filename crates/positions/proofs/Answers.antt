@@ -1,5 +1,5 @@
 -- From what the code found and wrote to the promises of diagram at a position and of position of a diagram.
-use mathlib.Core.Path.{_≡_, refl, sym}
+use mathlib.Core.Path.{_≡_, refl, sym, _∙_}
 use mathlib.Core.Logic.{_⊎_, inl, inr}
 use mathlib.Core.List.{List}
 use Prim.Native.Nat.{ℕ, suc, _≤_, _<_}
@@ -18,11 +18,12 @@ use Rattle.counting.proofs.Positions.{at-word}
 
 -- ---- a word written over the beginning of a list
 
-pub over-part : (w a : List ℕ) (m : ℕ) (b : List ℕ) → m ≡ length w → b ≡ over w a → take m b ≡ w
-over-part w a m b e q = rw q (take-at w _ m (sym e))
+-- m is the word's length k
+pub over-part : (w a : List ℕ) (m k : ℕ) (b : List ℕ) → m ≡ k → k ≡ length w → b ≡ over w a → take m b ≡ w
+over-part w a m k b d e q = rw q (take-at w _ m (sym (d ∙ e)))
 
-pub over-within : (w a : List ℕ) (m : ℕ) (b : List ℕ) → m ≡ length w → b ≡ over w a → m ≤ length b
-over-within w a m b e q = rw q (simp length-append (omega arith))
+pub over-within : (w a : List ℕ) (m k : ℕ) (b : List ℕ) → m ≡ k → k ≡ length w → b ≡ over w a → m ≤ length b
+over-within w a m k b d e q = rw q (simp length-append (omega arith))
 
 -- ---- lists that are long enough
 

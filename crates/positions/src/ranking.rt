@@ -12,7 +12,7 @@ ghost use Rattle.counting.specs.Ranking.{rank};
 ghost use Rattle.positions.specs.Steps.{Passed};
 
 // How many ways come before those with the item, and the height and the labels free after it.
-pub struct Block {
+struct Block {
     before: u64,
     height: usize,
     free: usize,
@@ -33,6 +33,7 @@ fn jumped(h: usize, free: usize, d: usize) -> Block
     }
 }
 
+// The block of an item, a case for each event.
 fn pass(height: usize, free: usize, item: u16) -> Block
     requires { ⌜ ((w : List ℕ) × Fits height free (item ∷ w)) ⌝ }
     requires { ⌜ 3 * height + free ≤ 56 ⌝ }

@@ -12,7 +12,7 @@ ghost use Rattle.counting.specs.Position.{wordAt};
 ghost use Rattle.positions.specs.Steps.{Chosen, Unranking};
 
 // An event, with the height and the labels free after it, and the place among the ways to go on from there.
-pub struct Choice {
+struct Choice {
     item: u16,
     height: usize,
     free: usize,

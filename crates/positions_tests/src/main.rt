@@ -142,6 +142,11 @@ fn lent(name: &[u8], n: u64, p: u64, s0: &mut [u16], s1: &mut [u16], word: &mut 
     text(b"]\n");
 }
 
+// Lists that are just long enough for size 4.
+fn lent_four(name: &[u8], n: u64, p: u64) {
+    lent(name, n, p, &mut [9; 4], &mut [9; 4], &mut [9; 5]);
+}
+
 fn refusals() {
     lent(b"just room", 3, 1, &mut [9; 3], &mut [9; 3], &mut [9; 4]);
     lent(
@@ -152,73 +157,18 @@ fn refusals() {
         &mut [9; 4],
         &mut [9; 6],
     );
-    lent(
-        b"s0 short by one",
-        3,
-        1,
-        &mut [9; 2],
-        &mut [9; 3],
-        &mut [9; 4],
-    );
-    lent(
-        b"s1 short by one",
-        3,
-        1,
-        &mut [9; 3],
-        &mut [9; 2],
-        &mut [9; 4],
-    );
-    lent(
-        b"word list short by one",
-        3,
-        4,
-        &mut [9; 3],
-        &mut [9; 3],
-        &mut [9; 3],
-    );
+    lent(b"s0 short", 3, 1, &mut [9; 2], &mut [9; 3], &mut [9; 4]);
+    lent(b"s1 short", 3, 1, &mut [9; 3], &mut [9; 2], &mut [9; 4]);
+    lent(b"word short", 3, 4, &mut [9; 3], &mut [9; 3], &mut [9; 3]);
     lent(b"no places", 1, 1, &mut [], &mut [], &mut []);
-    lent(
-        b"position 8 of size 4",
-        4,
-        8,
-        &mut [9; 4],
-        &mut [9; 4],
-        &mut [9; 5],
-    );
-    lent(
-        b"position 9 of size 4",
-        4,
-        9,
-        &mut [9; 4],
-        &mut [9; 4],
-        &mut [9; 5],
-    );
-    lent(
-        b"position 0 of size 4",
-        4,
-        0,
-        &mut [9; 4],
-        &mut [9; 4],
-        &mut [9; 5],
-    );
-    lent(
-        b"the largest position",
-        4,
-        18446744073709551615,
-        &mut [9; 4],
-        &mut [9; 4],
-        &mut [9; 5],
-    );
-    lent(b"size 0", 0, 1, &mut [9; 1], &mut [9; 1], &mut [9; 2]);
-    lent(b"size 51", 51, 1, &mut [9; 1], &mut [9; 1], &mut [9; 2]);
-    lent(
-        b"the largest size",
-        18446744073709551615,
-        1,
-        &mut [9; 1],
-        &mut [9; 1],
-        &mut [9; 2],
-    );
+    lent_four(b"position 8 of size 4", 4, 8);
+    lent_four(b"position 9 of size 4", 4, 9);
+    lent_four(b"position 0 of size 4", 4, 0);
+    lent_four(b"the largest position", 4, 18446744073709551615);
+    lent_four(b"size 0", 0, 1);
+    lent_four(b"size 51", 51, 1);
+    lent_four(b"the largest size", 18446744073709551615, 1);
+    lent_four(b"position before room", 50, 0);
     lent(
         b"size before position and room",
         51,
@@ -227,7 +177,6 @@ fn refusals() {
         &mut [],
         &mut [],
     );
-    lent(b"position before room", 4, 9, &mut [], &mut [], &mut []);
 }
 
 // ---- position of a diagram
@@ -263,226 +212,17 @@ fn places() {
     place(b"two parts", &[1, 2], &[1, 2], 1);
 }
 
-// Black vertices of three edges in a row, the last of each joined to the first of the next.
-fn rows() {
-    place(
-        b"50 edges in a row",
-        &[
-            2,
-            3,
-            1,
-            5,
-            6,
-            4,
-            8,
-            9,
-            7,
-            11,
-            12,
-            10,
-            14,
-            15,
-            13,
-            17,
-            18,
-            16,
-            20,
-            21,
-            19,
-            23,
-            24,
-            22,
-            26,
-            27,
-            25,
-            29,
-            30,
-            28,
-            32,
-            33,
-            31,
-            35,
-            36,
-            34,
-            38,
-            39,
-            37,
-            41,
-            42,
-            40,
-            44,
-            45,
-            43,
-            47,
-            48,
-            46,
-            49,
-            50,
-        ],
-        &[
-            1,
-            2,
-            4,
-            3,
-            5,
-            7,
-            6,
-            8,
-            10,
-            9,
-            11,
-            13,
-            12,
-            14,
-            16,
-            15,
-            17,
-            19,
-            18,
-            20,
-            22,
-            21,
-            23,
-            25,
-            24,
-            26,
-            28,
-            27,
-            29,
-            31,
-            30,
-            32,
-            34,
-            33,
-            35,
-            37,
-            36,
-            38,
-            40,
-            39,
-            41,
-            43,
-            42,
-            44,
-            46,
-            45,
-            50,
-            49,
-            48,
-            47,
-        ],
-        1,
-    );
-    place(
-        b"51 edges in a row",
-        &[
-            2,
-            3,
-            1,
-            5,
-            6,
-            4,
-            8,
-            9,
-            7,
-            11,
-            12,
-            10,
-            14,
-            15,
-            13,
-            17,
-            18,
-            16,
-            20,
-            21,
-            19,
-            23,
-            24,
-            22,
-            26,
-            27,
-            25,
-            29,
-            30,
-            28,
-            32,
-            33,
-            31,
-            35,
-            36,
-            34,
-            38,
-            39,
-            37,
-            41,
-            42,
-            40,
-            44,
-            45,
-            43,
-            47,
-            48,
-            46,
-            50,
-            51,
-            49,
-        ],
-        &[
-            1,
-            2,
-            4,
-            3,
-            5,
-            7,
-            6,
-            8,
-            10,
-            9,
-            11,
-            13,
-            12,
-            14,
-            16,
-            15,
-            17,
-            19,
-            18,
-            20,
-            22,
-            21,
-            23,
-            25,
-            24,
-            26,
-            28,
-            27,
-            29,
-            31,
-            30,
-            32,
-            34,
-            33,
-            35,
-            37,
-            36,
-            38,
-            40,
-            39,
-            41,
-            43,
-            42,
-            44,
-            46,
-            45,
-            47,
-            49,
-            48,
-            50,
-            51,
-        ],
-        1,
-    );
+// The first diagram of size 50, whose edge 49 is its own white partner, and the same with an edge 51 joined there.
+fn at_the_edge() {
+    let mut s0 = [0u16; 51];
+    let mut s1 = [0u16; 51];
+    let mut word = [0u16; 51];
+    positions::diagram_at(50, 1, &mut s0, &mut s1, &mut word);
+    place(b"50 edges", &s0[0..50], &s1[0..50], 1);
+    s0[50] = 51;
+    s1[48] = 51;
+    s1[50] = 49;
+    place(b"51 edges", &s0, &s1, 1);
 }
 
 // ---- there and back
@@ -568,6 +308,6 @@ fn main() {
     diagram(50, 499877970985660);
     refusals();
     places();
-    rows();
+    at_the_edge();
     rounds();
 }

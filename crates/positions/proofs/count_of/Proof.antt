@@ -22,9 +22,10 @@ ways-requires-2 c κs = search needs
 
 add-result : tie.Need-add-result
 add-result c =
+    let start = c .before .before .before in
     let a = c .before .before .ways .ensures .inside (omega arith) in
     let b = c .ways2 .ensures .inside (omega arith) in
-    omega (arith, ways-small 1 (c .before .before .before .args .size - 1) (omega arith), ways-small 3 (c .before .before .before .args .size - 3) (omega arith))
+    omega (arith, ways-small 1 (start .args .size - 1) (omega arith), ways-small 3 (start .args .size - 3) (omega arith))
 
 returns-2 : tie.Need-returns-2
 returns-2 c =

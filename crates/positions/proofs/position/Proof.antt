@@ -43,19 +43,19 @@ array-share-prefix-word : tie.Need-array-share-prefix-word
 array-share-prefix-word c =
     let x = c .before .before .before .before .before .before .before .before .before .before .before .before .before .args in
     let r = rw (c .before .before .relabelled2 .given .1) at (c .before .before .before .before .before .before .before .relabel .ensures) in
-    over-within (wordOf (x .s0 .now) (x .s1 .now) (x .root)) (replicate 51 0) _ _ (c .wide .ensures ∙ r .2) (r .3 .word-written)
+    over-within (wordOf (x .s0 .now) (x .s1 .now) (x .root)) (replicate 51 0) _ _ _ (c .wide .ensures) (r .2) (r .3 .word-written)
 
 slice-aggregate-position-of : tie.Need-slice-aggregate-position-of
 slice-aggregate-position-of c =
     let x = c .before .before .before .before .before .before .before .before .before .before .before .before .before .before .args in
     let r = rw (c .before .before .before .relabelled2 .given .1) at (c .before .before .before .before .before .before .before .before .relabel .ensures) in
-    sym (length-take-le _ _ (over-within (wordOf (x .s0 .now) (x .s1 .now) (x .root)) (replicate 51 0) _ _ (c .before .wide .ensures ∙ r .2) (r .3 .word-written)))
+    sym (length-take-le _ _ (over-within (wordOf (x .s0 .now) (x .s1 .now) (x .root)) (replicate 51 0) _ _ _ (c .before .wide .ensures) (r .2) (r .3 .word-written)))
 
 position-of-requires : tie.Need-position-of-requires
 position-of-requires c κs =
     let x = c .before .before .before .before .before .before .before .before .before .before .before .before .before .before .args in
     let r = rw (c .before .before .before .relabelled2 .given .1) at (c .before .before .before .before .before .before .before .before .relabel .ensures) in (
-      rw (over-part (wordOf (x .s0 .now) (x .s1 .now) (x .root)) (replicate 51 0) _ _ (c .before .wide .ensures ∙ r .2) (r .3 .word-written)) (word-of-size (x .s0 .now) (x .s1 .now) (x .root) (r .0)),
+      rw (over-part (wordOf (x .s0 .now) (x .s1 .now) (x .root)) (replicate 51 0) _ _ _ (c .before .wide .ensures) (r .2) (r .3 .word-written)) (word-of-size (x .s0 .now) (x .s1 .now) (x .root) (r .0)),
       within-50 (x .s0 .now) (x .s1 .now) (x .root) (r .1),
     )
 
@@ -69,7 +69,7 @@ returns-3 : tie.Need-returns-3
 returns-3 c =
     let x = c .before .before .before .before .before .before .before .before .before .before .before .before .before .before .before .args in
     let r = rw (c .before .before .before .before .relabelled2 .given .1) at (c .before .before .before .before .before .before .before .before .before .relabel .ensures) in
-    let q = over-part (wordOf (x .s0 .now) (x .s1 .now) (x .root)) (replicate 51 0) _ _ (c .before .before .wide .ensures ∙ r .2) (r .3 .word-written) in (
+    let q = over-part (wordOf (x .s0 .now) (x .s1 .now) (x .root)) (replicate 51 0) _ _ _ (c .before .before .wide .ensures) (r .2) (r .3 .word-written) in (
       r .0,
       (r .0 .size .0, within-50 (x .s0 .now) (x .s1 .now) (x .root) (r .1)),
       c .position-of .ensures ∙ ap (position (length (x .s0 .now))) q,

@@ -36,7 +36,9 @@ same-length-2 : tie.Need-same-length-2
 same-length-2 c = search needs
 
 returns : tie.Need-returns
-returns c = λ D w e R. midway-U D w _ _ (c .before .before .before .args .pile .now) R (c .before .before .before .pre .0) (rw (c .match .keys1) at e)
+returns c = λ D w e R.
+    let start = c .before .before .before in
+    midway-U D w _ _ (start .args .pile .now) R (start .pre .0) (rw (c .match .keys1) at e)
 
 same-length-3 : tie.Need-same-length-3
 same-length-3 c = search needs
@@ -45,7 +47,9 @@ same-length-4 : tie.Need-same-length-4
 same-length-4 c = search needs
 
 returns-2 : tie.Need-returns-2
-returns-2 c = λ D w e R. let i = first-T D w _ (c .before .before .before .before .before .before .before .before .match .rest .1) e in rw (c .before .before .write-three2 .ensures, c .before .before .before .before .before .before .write-three .ensures) (midway-T D w _ _ (c .before .before .before .before .before .before .before .before .before .before .before .args .pile .now) R (c .before .before .before .before .before .before .before .before .before .before .before .pre .0) (rw (i .0) at e))
+returns-2 c = λ D w e R.
+    let start = c .before .before .before .before .before .before .before .before .before .before .before in
+    let i = first-T D w _ (c .before .before .before .before .before .before .before .before .match .rest .1) e in rw (c .before .before .write-three2 .ensures, c .before .before .before .before .before .before .write-three .ensures) (midway-T D w _ _ (start .args .pile .now) R (start .pre .0) (rw (i .0) at e))
 
 pub begin-spec : {M : Type 1} → statement M
 begin-spec =

@@ -30,8 +30,9 @@ shared-slice-read-event c = search needs
 
 event-requires : tie.Need-event-requires Inv-loop μ-loop
 event-requires c κs =
-    let (D, a0, a1, M) = c .before .before .before .before .before .before .before .before .before .pre in
-    (D, _, a0, a1, rw (next-item (c .before .before .before .before .before .before .before .before .before .args .word .now) (c .before .before .before .before .before .loop .i) (omega arith)) at (c .before .before .before .before .before .loop .inv .3 D a0 a1 M))
+    let start = c .before .before .before .before .before .before .before .before .before in
+    let (D, a0, a1, M) = start .pre in
+    (D, _, a0, a1, rw (next-item (start .args .word .now) (c .before .before .before .before .before .loop .i) (omega arith)) at (c .before .before .before .before .before .loop .inv .3 D a0 a1 M))
 
 add-i : tie.Need-add-i Inv-loop μ-loop
 add-i c = search needs

@@ -21,8 +21,9 @@ buds-requires c κs = search needs
 
 add-before-2 : tie.Need-add-before-2
 add-before-2 c =
-    let (w, a) = c .before .before .before .pre .0 in
-    omega (arith, c .before .before .ways .ensures .inside (omega arith), c .before .forks .ensures, c .buds .ensures, sum-J _ _ _ w (c .before .before .before .pre .1) a)
+    let start = c .before .before .before in
+    let (w, a) = start .pre .0 in
+    omega (arith, c .before .before .ways .ensures .inside (omega arith), c .before .forks .ensures, c .buds .ensures, sum-J _ _ _ w (start .pre .1) a)
 
 sub-ways : tie.Need-sub-ways
 sub-ways c = search needs
@@ -32,13 +33,15 @@ ways-requires-2 c κs = search needs
 
 mul-t7 : tie.Need-mul-t7
 mul-t7 c =
-    let (w, a) = c .before .before .before .before .pre .0 in
-    rw (c .ways2 .ensures .inside (omega arith)) (omega (arith, sum-J _ _ _ w (c .before .before .before .before .pre .1) a))
+    let start = c .before .before .before .before in
+    let (w, a) = start .pre .0 in
+    rw (c .ways2 .ensures .inside (omega arith)) (omega (arith, sum-J _ _ _ w (start .pre .1) a))
 
 add-t9 : tie.Need-add-t9
 add-t9 c =
-    let (w, a) = c .before .before .before .before .pre .0 in
-    rw (c .ways2 .ensures .inside (omega arith)) (omega (arith, c .before .before .before .ways .ensures .inside (omega arith), c .before .before .forks .ensures, c .before .buds .ensures, sum-J _ _ _ w (c .before .before .before .before .pre .1) a))
+    let start = c .before .before .before .before in
+    let (w, a) = start .pre .0 in
+    rw (c .ways2 .ensures .inside (omega arith)) (omega (arith, c .before .before .before .ways .ensures .inside (omega arith), c .before .before .forks .ensures, c .before .buds .ensures, sum-J _ _ _ w (start .pre .1) a))
 
 sub-t10 : tie.Need-sub-t10
 sub-t10 c = search needs

@@ -36,11 +36,14 @@ forks-requires c κs =
 
 add-t11 : tie.Need-add-t11
 add-t11 c =
-    let (w, a) = c .before .before .before .pre .0 in
-    omega (arith, c .before .ways2 .ensures .inside (omega arith), c .forks .ensures, sum-B _ _ _ w (popped _ _ _ w a) (c .before .before .before .pre .1) (rw (c .before .before .match .keys3) at a))
+    let start = c .before .before .before in
+    let (w, a) = start .pre .0 in
+    omega (arith, c .before .ways2 .ensures .inside (omega arith), c .forks .ensures, sum-B _ _ _ w (popped _ _ _ w a) (start .pre .1) (rw (c .before .before .match .keys3) at a))
 
 sub-t12 : tie.Need-sub-t12
-sub-t12 c = let (w, a) = c .before .before .before .pre .0 in free-B _ _ _ w (popped _ _ _ w a) (c .before .before .before .pre .1) (rw (c .before .before .match .keys3) at a)
+sub-t12 c =
+    let start = c .before .before .before in
+    let (w, a) = start .pre .0 in free-B _ _ _ w (popped _ _ _ w a) (start .pre .1) (rw (c .before .before .match .keys3) at a)
 
 sub-wide : tie.Need-sub-wide
 sub-wide c = search needs
@@ -65,7 +68,8 @@ returns-3 c = λ w a. rw (c .before .before .match .keys3, c .before .ways2 .ens
 
 returns-4 : tie.Need-returns-4
 returns-4 c = λ w a.
-    let i = popped (c .before .before .before .args .height) (c .before .before .before .args .free) (c .before .before .before .args .item) w a in
+    let start = c .before .before .before in
+    let i = popped (start .args .height) (start .args .free) (start .args .item) w a in
     let q = jump-item _ _ (c .before .before .match .rest .0 .0 .1) (c .before .before .match .rest .0 .1) (c .before .before .match .rest .1) (c .before .wide .ensures) in
     from-J _ _ _ _ _ w i q _ _ _ (c .jumped .ensures w (item-J _ _ _ _ _ w i q a))
 

@@ -26,13 +26,15 @@ shared-slice-read-pass c = search needs
 
 pass-requires : tie.Need-pass-requires Inv-loop μ-loop
 pass-requires c κs =
-    let R = rw (next-item (c .before .before .before .before .args .items .now) (c .before .before .loop .i) (omega arith)) at (c .before .before .loop .inv .1) in
-    ((drop (c .before .before .loop .i + 1) (c .before .before .before .before .args .items .now), R .fits), R .region)
+    let start = c .before .before .before .before in
+    let R = rw (next-item (start .args .items .now) (c .before .before .loop .i) (omega arith)) at (c .before .before .loop .inv .1) in
+    ((drop (c .before .before .loop .i + 1) (start .args .items .now), R .fits), R .region)
 
 add-place : tie.Need-add-place Inv-loop μ-loop
 add-place c =
-    let R = rw (next-item (c .before .before .before .before .before .before .args .items .now) (c .before .before .before .before .loop .i) (omega arith)) at (c .before .before .before .before .loop .inv .1) in
-    omega (arith, ranked-more _ _ _ _ _ _ _ _ _ R (c .before .pass .ensures _ (R .fits)) .sum, rank-small (c .before .before .before .before .before .before .args .height) (c .before .before .before .before .before .before .args .free) (c .before .before .before .before .before .before .args .items .now) (c .before .before .before .before .before .before .pre .1) (c .before .before .before .before .before .before .pre .0))
+    let start = c .before .before .before .before .before .before in
+    let R = rw (next-item (start .args .items .now) (c .before .before .before .before .loop .i) (omega arith)) at (c .before .before .before .before .loop .inv .1) in
+    omega (arith, ranked-more _ _ _ _ _ _ _ _ _ R (c .before .pass .ensures _ (R .fits)) .sum, rank-small (start .args .height) (start .args .free) (start .args .items .now) (start .pre .1) (start .pre .0))
 
 add-i : tie.Need-add-i Inv-loop μ-loop
 add-i c = search needs

@@ -26,27 +26,38 @@ add-t11 : tie.Need-add-t11
 add-t11 c = search needs
 
 sub-t12 : tie.Need-sub-t12
-sub-t12 c = found-F _ _ _ _ _ _ _ (popped _ (c .before .before .before .before .pre .0)) (c .before .before .before .before .pre .1) (c .before .before .before .before .pre .2) (c .before .before .before .ways .ensures .inside (omega arith)) (c .before .forks .ensures) refl (c .before .before .if1 .left) (c .if2 .taken) .0
+sub-t12 c =
+    let start = c .before .before .before .before in
+    found-F _ _ _ _ _ _ _ (popped _ (start .pre .0)) (start .pre .1) (start .pre .2) (c .before .before .before .ways .ensures .inside (omega arith)) (c .before .forks .ensures) refl (c .before .before .if1 .left) (c .if2 .taken) .0
 
 returns-2 : tie.Need-returns-2
-returns-2 c = found-F _ _ _ _ _ _ _ (popped _ (c .before .before .before .before .pre .0)) (c .before .before .before .before .pre .1) (c .before .before .before .before .pre .2) (c .before .before .before .ways .ensures .inside (omega arith)) (c .before .forks .ensures) refl (c .before .before .if1 .left) (c .if2 .taken) .1
+returns-2 c =
+    let start = c .before .before .before .before in
+    found-F _ _ _ _ _ _ _ (popped _ (start .pre .0)) (start .pre .1) (start .pre .2) (c .before .before .before .ways .ensures .inside (omega arith)) (c .before .forks .ensures) refl (c .before .before .if1 .left) (c .if2 .taken) .1
 
 buds-requires : tie.Need-buds-requires
 buds-requires c κs = search needs
 
 sub-t13 : tie.Need-sub-t13
-sub-t13 c = found-B _ _ _ _ _ _ _ (popped _ (c .before .before .before .before .before .before .pre .0)) (c .before .before .before .before .before .before .pre .1) (c .before .before .before .before .before .before .pre .2) (c .before .before .before .before .before .ways .ensures .inside (omega arith)) (c .before .before .before .forks .ensures) (c .before .buds .ensures) (c .before .before .before .before .if1 .left) (c .before .before .if2 .left) (c .if3 .taken) .0
+sub-t13 c =
+    let start = c .before .before .before .before .before .before in
+    found-B _ _ _ _ _ _ _ (popped _ (start .pre .0)) (start .pre .1) (start .pre .2) (c .before .before .before .before .before .ways .ensures .inside (omega arith)) (c .before .before .before .forks .ensures) (c .before .buds .ensures) (c .before .before .before .before .if1 .left) (c .before .before .if2 .left) (c .if3 .taken) .0
 
 returns-3 : tie.Need-returns-3
-returns-3 c = found-B _ _ _ _ _ _ _ (popped _ (c .before .before .before .before .before .before .pre .0)) (c .before .before .before .before .before .before .pre .1) (c .before .before .before .before .before .before .pre .2) (c .before .before .before .before .before .ways .ensures .inside (omega arith)) (c .before .before .before .forks .ensures) (c .before .buds .ensures) (c .before .before .before .before .if1 .left) (c .before .before .if2 .left) (c .if3 .taken) .1
+returns-3 c =
+    let start = c .before .before .before .before .before .before in
+    found-B _ _ _ _ _ _ _ (popped _ (start .pre .0)) (start .pre .1) (start .pre .2) (c .before .before .before .before .before .ways .ensures .inside (omega arith)) (c .before .before .before .forks .ensures) (c .before .buds .ensures) (c .before .before .before .before .if1 .left) (c .before .before .if2 .left) (c .if3 .taken) .1
 
 jump-requires : tie.Need-jump-requires
-jump-requires c κs = (omega arith, jump-within _ _ _ _ _ _ _ (popped _ (c .before .before .before .before .before .before .pre .0)) (c .before .before .before .before .before .before .pre .1) (c .before .before .before .before .before .before .pre .2) (c .before .before .before .before .before .ways .ensures .inside (omega arith)) (c .before .before .before .forks .ensures) (c .before .buds .ensures) (c .before .before .before .before .if1 .left) (c .before .before .if2 .left) (c .if3 .left))
+jump-requires c κs =
+    let start = c .before .before .before .before .before .before in
+    (omega arith, jump-within _ _ _ _ _ _ _ (popped _ (start .pre .0)) (start .pre .1) (start .pre .2) (c .before .before .before .before .before .ways .ensures .inside (omega arith)) (c .before .before .before .forks .ensures) (c .before .buds .ensures) (c .before .before .before .before .if1 .left) (c .before .before .if2 .left) (c .if3 .left))
 
 returns-4 : tie.Need-returns-4
 returns-4 c =
+    let start = c .before .before .before .before .before .before .before in
     let j = c .jump .ensures in
-    rw (j .0, j .1, j .2, j .3) (found-J _ _ _ _ _ _ _ (popped _ (c .before .before .before .before .before .before .before .pre .0)) (c .before .before .before .before .before .before .before .pre .1) (c .before .before .before .before .before .before .before .pre .2) (c .before .before .before .before .before .before .ways .ensures .inside (omega arith)) (c .before .before .before .before .forks .ensures) (c .before .before .buds .ensures) (c .before .before .before .before .before .if1 .left) (c .before .before .before .if2 .left) (c .before .if3 .left))
+    rw (j .0, j .1, j .2, j .3) (found-J _ _ _ _ _ _ _ (popped _ (start .pre .0)) (start .pre .1) (start .pre .2) (c .before .before .before .before .before .before .ways .ensures .inside (omega arith)) (c .before .before .before .before .forks .ensures) (c .before .before .buds .ensures) (c .before .before .before .before .before .if1 .left) (c .before .before .before .if2 .left) (c .before .if3 .left))
 
 pub choose-spec : {M : Type 1} → statement M
 choose-spec =
