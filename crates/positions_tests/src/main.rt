@@ -147,7 +147,7 @@ fn lent_four(name: &[u8], n: u64, p: u64) {
     lent(name, n, p, &mut [9; 4], &mut [9; 4], &mut [9; 5]);
 }
 
-fn refusals() {
+fn rooms() {
     lent(b"just room", 3, 1, &mut [9; 3], &mut [9; 3], &mut [9; 4]);
     lent(
         b"room to spare",
@@ -161,6 +161,9 @@ fn refusals() {
     lent(b"s1 short", 3, 1, &mut [9; 3], &mut [9; 2], &mut [9; 4]);
     lent(b"word short", 3, 4, &mut [9; 3], &mut [9; 3], &mut [9; 3]);
     lent(b"no places", 1, 1, &mut [], &mut [], &mut []);
+}
+
+fn edges() {
     lent_four(b"position 8 of size 4", 4, 8);
     lent_four(b"position 9 of size 4", 4, 9);
     lent_four(b"position 0 of size 4", 4, 0);
@@ -201,6 +204,9 @@ fn places() {
     place(b"the same at root 1", &[1, 3, 4, 2], &[2, 1, 3, 4], 1);
     place(b"UW", &[1], &[1], 1);
     place(b"UB from its other edge", &[1, 2], &[2, 1], 2);
+}
+
+fn places_refused() {
     place(b"no edge", &[], &[], 1);
     place(b"unlike lengths", &[1, 2], &[1], 1);
     place(b"root 0", &[1], &[1], 0);
@@ -306,8 +312,10 @@ fn main() {
     listings();
     diagram(50, 1);
     diagram(50, 499877970985660);
-    refusals();
+    rooms();
+    edges();
     places();
+    places_refused();
     at_the_edge();
     rounds();
 }
