@@ -5,4 +5,7 @@ pub mod Shape
 pub mod Thin
 pub mod Look
 pub mod Take
+pub mod Lend
+pub mod Show
+pub mod LendTake
 pub mod Answers

@@ -7,3 +7,4 @@ pub mod Tickets
 pub mod Entries
 pub mod Counts
 pub mod Lent
+pub mod Examples

@@ -1,10 +1,10 @@
 -- The shape of each answer and of the struct in which its core returns it with the book: the answer stands at byte 0, the book at the
--- next multiple of 8 after it.
+-- next multiple of 8 after it. `..-shape` takes that struct apart, `..-made` puts it together.
 use mathlib.Core.Path.{refl}
 use mathlib.Core.List.{[], _∷_}
 use denote.Struct.Laws as LL
 use denote.Enum.Laws as EL
-use Rattle.sharing.proofs.Lent.Shape.{Shape}
+use Rattle.sharing.proofs.Lent.Shape.{Shape, Made}
 use Rattle.sharing.proofs.types.Opening as Opening
 use Rattle.sharing.proofs.types.Opening.Laws as OpeningLaws
 use Rattle.sharing.proofs.types.OpenDone as OpenDone
@@ -47,6 +47,14 @@ open-shape = record {
   ans-makes = λ 𝓤 H A W. EL.makes Opening.the-type OpeningLaws.the-plain 𝓤 H A;
 }
 
+abbrev pub open-made : Made open-shape
+open-made = record {
+  make = λ y h. record { answer = y; book = h };
+  tells = λ y vs is. EL.tells Opening.the-type OpeningLaws.the-laws y vs is;
+  made = λ y v h is has. LL.owes OpenDone.the-type OpenDoneLaws.the-laws (record { answer = y; book = h }) (EL.owes Opening.the-type OpeningLaws.the-laws y (EL.owed Opening.the-type OpeningLaws.the-laws y (v ∷ []) is), (has, tt));
+  res-makes = LL.makes OpenDone.the-type OpenDoneLaws.the-plain;
+}
+
 abbrev pub claim-shape : Shape
 claim-shape = record {
   ans = Claiming.the-row;
@@ -66,6 +74,14 @@ claim-shape = record {
   res-typed = λ 𝓤 H A W r v is. LL.lawful ClaimDone.the-type ClaimDoneLaws.the-laws 𝓤 H A W .typed r (v ∷ []) is .0;
   ans-typed = λ 𝓤 H A W y v is. EL.lawful Claiming.the-type ClaimingLaws.the-laws 𝓤 H A W tt .typed y (v ∷ []) is .0;
   ans-makes = λ 𝓤 H A W. EL.makes Claiming.the-type ClaimingLaws.the-plain 𝓤 H A;
+}
+
+abbrev pub claim-made : Made claim-shape
+claim-made = record {
+  make = λ y h. record { answer = y; book = h };
+  tells = λ y vs is. EL.tells Claiming.the-type ClaimingLaws.the-laws y vs is;
+  made = λ y v h is has. LL.owes ClaimDone.the-type ClaimDoneLaws.the-laws (record { answer = y; book = h }) (EL.owes Claiming.the-type ClaimingLaws.the-laws y (EL.owed Claiming.the-type ClaimingLaws.the-laws y (v ∷ []) is), (has, tt));
+  res-makes = LL.makes ClaimDone.the-type ClaimDoneLaws.the-plain;
 }
 
 abbrev pub take-shape : Shape
@@ -89,6 +105,14 @@ take-shape = record {
   ans-makes = λ 𝓤 H A W. EL.makes Taking.the-type TakingLaws.the-plain 𝓤 H A;
 }
 
+abbrev pub take-made : Made take-shape
+take-made = record {
+  make = λ y h. record { answer = y; book = h };
+  tells = λ y vs is. EL.tells Taking.the-type TakingLaws.the-laws y vs is;
+  made = λ y v h is has. LL.owes TakeDone.the-type TakeDoneLaws.the-laws (record { answer = y; book = h }) (EL.owes Taking.the-type TakingLaws.the-laws y (EL.owed Taking.the-type TakingLaws.the-laws y (v ∷ []) is), (has, tt));
+  res-makes = LL.makes TakeDone.the-type TakeDoneLaws.the-plain;
+}
+
 abbrev pub commit-shape : Shape
 commit-shape = record {
   ans = Committing.the-row;
@@ -110,6 +134,14 @@ commit-shape = record {
   ans-makes = λ 𝓤 H A W. EL.makes Committing.the-type CommittingLaws.the-plain 𝓤 H A;
 }
 
+abbrev pub commit-made : Made commit-shape
+commit-made = record {
+  make = λ y h. record { answer = y; book = h };
+  tells = λ y vs is. EL.tells Committing.the-type CommittingLaws.the-laws y vs is;
+  made = λ y v h is has. LL.owes CommitDone.the-type CommitDoneLaws.the-laws (record { answer = y; book = h }) (EL.owes Committing.the-type CommittingLaws.the-laws y (EL.owed Committing.the-type CommittingLaws.the-laws y (v ∷ []) is), (has, tt));
+  res-makes = LL.makes CommitDone.the-type CommitDoneLaws.the-plain;
+}
+
 abbrev pub release-shape : Shape
 release-shape = record {
   ans = Releasing.the-row;
@@ -129,4 +161,12 @@ release-shape = record {
   res-typed = λ 𝓤 H A W r v is. LL.lawful ReleaseDone.the-type ReleaseDoneLaws.the-laws 𝓤 H A W .typed r (v ∷ []) is .0;
   ans-typed = λ 𝓤 H A W y v is. EL.lawful Releasing.the-type ReleasingLaws.the-laws 𝓤 H A W tt .typed y (v ∷ []) is .0;
   ans-makes = λ 𝓤 H A W. EL.makes Releasing.the-type ReleasingLaws.the-plain 𝓤 H A;
+}
+
+abbrev pub release-made : Made release-shape
+release-made = record {
+  make = λ y h. record { answer = y; book = h };
+  tells = λ y vs is. EL.tells Releasing.the-type ReleasingLaws.the-laws y vs is;
+  made = λ y v h is has. LL.owes ReleaseDone.the-type ReleaseDoneLaws.the-laws (record { answer = y; book = h }) (EL.owes Releasing.the-type ReleasingLaws.the-laws y (EL.owed Releasing.the-type ReleasingLaws.the-laws y (v ∷ []) is), (has, tt));
+  res-makes = LL.makes ReleaseDone.the-type ReleaseDoneLaws.the-plain;
 }

@@ -1,8 +1,10 @@
--- A thin function over a lent book, two u64 and three `&mut [u16]`: it copies the book, lends the slices on to a core, stores the book of the core's result and returns its answer. One walk for every core and every contract.
--- What the slices own goes to the core as it stands, with their lifetimes' tokens: the thin function has them no more, and has at exit what the core says of their last lists (`gave-slice`).
---     take3        its MIR, at the answer's type, the type of the core's result and the core's name
---     takes3       it meets its contract, where the core meets its own and the two contracts say the same (`Hands`)
--- Assumes nothing.
+-- A thin function over a lent book, two u64 and three lent lists of u16: it copies the book, lends the lists on to a core, stores the book of
+-- the core's result and returns its answer. What the lists own goes to the core as it stands, with their lifetimes' tokens; at exit the thin
+-- function has what the core says of their last contents (`gave-slice`).
+--
+--   take-code       its code, at the answer's type, the type of the core's result and the core's name
+--   take-ended      its signature;  take-core-ended, the core's
+--   take-meets      it meets its contract, where the core meets its own and the two contracts say the same (`Hands`)
 use mathlib.Core.Path.{_≡_, refl, ap}
 use Prim.Native.Nat.{ℕ, _<_, _^_}
 use mathlib.Core.List.{[], _∷_, List}
@@ -43,8 +45,8 @@ use Rattle.sharing.proofs.types.Book as B
 use Rattle.sharing.proofs.types.Book.Laws as B′
 use Rattle.sharing.proofs.Lent.Shape.{Shape, bval, resTy}
 
-abbrev pub take3 : Ty → Ty → Name → Fn
-take3 aTy rTy f = record {
+abbrev pub take-code : Ty → Ty → Name → Fn
+take-code aTy rTy f = record {
   lifetimes = 4;
   outlives = [];
   params = 6;
@@ -63,8 +65,8 @@ take3 aTy rTy f = record {
 }
 
 -- the two signatures
-abbrev pub ended3 : RattleType → Ended
-ended3 R = record {
+abbrev pub take-ended : RattleType → Ended
+take-ended R = record {
   signature = record {
     lifetimes = 4;
     outlives = [];
@@ -74,8 +76,8 @@ ended3 R = record {
   kept = (yes, (yes, (yes, (yes, (yes, (yes, tt))))));
 }
 
-abbrev pub core3 : RattleType → Ended
-core3 R = record {
+abbrev pub take-core-ended : RattleType → Ended
+take-core-ended R = record {
   signature = record {
     lifetimes = 3;
     outlives = [];
@@ -92,7 +94,7 @@ Slice = RefT (List ℕ)
 abbrev Rest : Type 0
 Rest = ℕ × (ℕ × (Slice × (Slice × (Slice × Unit {0}))))
 
-abbrev stayed : (R : RattleType) → Stays (ended3 R .signature .params) (ended3 R .kept)
+abbrev stayed : (R : RattleType) → Stays (take-ended R .signature .params) (take-ended R .kept)
 stayed R = (
   stay-ref (0 ∷ []) tt (plain (λ _. B.the-row)),
   (
@@ -107,14 +109,14 @@ stayed R = (
 abbrev bvals : Book → List Val
 bvals h = bval h ∷ []
 
-module _ (S : Shape) {M : Type 1} (𝓤 : URA M) (H : Heap 𝓤) (A : Atoms 𝓤) (W : Given 𝓤 H A) (cc : Clauses 𝓤 (core3 (S .res))) (c : Clauses 𝓤 (ended3 (S .ans))) where
+module _ (S : Shape) {M : Type 1} (𝓤 : URA M) (H : Heap 𝓤) (A : Atoms 𝓤) (W : Given 𝓤 H A) (cc : Clauses 𝓤 (take-core-ended (S .res))) (c : Clauses 𝓤 (take-ended (S .ans))) where
   abbrev pub Core : Contract 𝓤
-  Core = tripleOf 𝓤 H A (core3 (S .res) .signature) (closing 𝓤 H A (core3 (S .res)) cc)
+  Core = tripleOf 𝓤 H A (take-core-ended (S .res) .signature) (closing 𝓤 H A (take-core-ended (S .res)) cc)
 
   -- what the two contracts owe each other. ws has the last lists
   abbrev pub Hands : Type 1
   Hands = (κs : Lfts 4) (a : RefT Book × Rest) (g : c κs a .ghost) → (g′ : cc (κs .1) (a .0 .now, a .1) .ghost) × (ent 𝓤 (c κs a .requires g) (cc (κs .1) (a .0 .now, a .1) .requires g′)
-      × ((r : S .res .Denot) (ws : Lasts (core3 (S .res)) (κs .1) (a .0 .now, a .1)) → ent 𝓤 (cc (κs .1) (a .0 .now, a .1) .ensures g′ r (atExit (core3 (S .res)) (κs .1) (a .0 .now, a .1) ws)) (c κs a .ensures g (S .answer r) (atExit (ended3 (S .ans)) κs a (S .book r, ws .1)))))
+      × ((r : S .res .Denot) (ws : Lasts (take-core-ended (S .res)) (κs .1) (a .0 .now, a .1)) → ent 𝓤 (cc (κs .1) (a .0 .now, a .1) .ensures g′ r (atExit (take-core-ended (S .res)) (κs .1) (a .0 .now, a .1) ws)) (c κs a .ensures g (S .answer r) (atExit (take-ended (S .ans)) κs a (S .book r, ws .1)))))
 
   module _ (hands : Hands) (κ κ₁ κ₂ κ₃ : Lft) (q q₁ q₂ q₃ : Share) (b o : ℕ) (γ : GName) (h : Book) (n m : ℕ) (n-fits : n < 2 ^ 64) (m-fits : m < 2 ^ 64) (x₀ x₁ x₂ : Slice) where
     abbrev κt : Lfts 3
@@ -141,13 +143,13 @@ module _ (S : Shape) {M : Type 1} (𝓤 : URA M) (H : Heap 𝓤) (A : Atoms 𝓤
 
     module _ (g : c (κ, κt) x .ghost) where
       abbrev Post : Val → SProp 𝓤
-      Post = walkOf 𝓤 H A (ended3 (S .ans)) (stayed (S .ans)) c .post (((κ, κt), (q, qt), tt, x, (vptr b o ∷ [], zv)), g)
+      Post = walkOf 𝓤 H A (take-ended (S .ans)) (stayed (S .ans)) c .post (((κ, κt), (q, qt), tt, x, (vptr b o ∷ [], zv)), g)
 
       abbrev LastsOf : Type 0
-      LastsOf = Lasts (core3 (S .res)) κt (h, z)
+      LastsOf = Lasts (take-core-ended (S .res)) κt (h, z)
 
       abbrev ens : S .res .Denot → LastsOf → SProp 𝓤
-      ens r ws = c (κ, κt) x .ensures g (S .answer r) (atExit (ended3 (S .ans)) (κ, κt) x (S .book r, ws .1))
+      ens r ws = c (κ, κt) x .ensures g (S .answer r) (atExit (take-ended (S .ans)) (κ, κt) x (S .book r, ws .1))
 
       abbrev to-core : Core .Ghost
       to-core = ((κt, qt, tt, (h, z), (bvals h, zv)), hands (κ, κt) x g .0)
@@ -164,18 +166,18 @@ module _ (S : Shape) {M : Type 1} (𝓤 : URA M) (H : Heap 𝓤) (A : Atoms 𝓤
           → ent 𝓤 (⋆ 𝓤 H A (Left r ws)) (Post (S .aval (S .answer r)))
       exits r ws e₀ e₁ e₂ is =
           qed W (Left r ws) ∵
-          suffices ! _ (ends-at 𝓤 H A (ended3 (S .ans)) (stayed (S .ans)) c W (((κ, κt), (q, qt), tt, x, (vptr b o ∷ [], zv)), g) (S .aval (S .answer r)) (S .answer r) (S .book r, ws .1) (tt, (tt, (tt, (e₀, (e₁, (e₂, tt))))))) $
+          suffices ! _ (ends-at 𝓤 H A (take-ended (S .ans)) (stayed (S .ans)) c W (((κ, κt), (q, qt), tt, x, (vptr b o ∷ [], zv)), g) (S .aval (S .answer r)) (S .answer r) (S .book r, ws .1) (tt, (tt, (tt, (e₀, (e₁, (e₂, tt))))))) $
           nothing ! $ move ! (7 ∷ 0 ∷ []) $ fjoin ! $ move ! (6 ∷ 0 ∷ []) $ fjoin ! $ move ! (5 ∷ 0 ∷ []) $ fjoin ! $
           owned ! u64 (Is u64) (uint-makes 𝓤 H A W w64) m _ (refl, m-fits) $ fjoin ! $ owned ! u64 (Is u64) (uint-makes 𝓤 H A W w64) n _ (refl, n-fits) $ fjoin ! $ move ! (1 ∷ 2 ∷ []) $ feqI ! (List Val) (vptr b o ∷ []) (vptr b o ∷ []) refl $ fjoin3 ! $ fjoin ! $
           owned ! (S .ans) (Is (S .ans)) (S .ans-makes 𝓤 H A W) (S .answer r) (S .aval (S .answer r) ∷ []) is $ move ! (1 ∷ 0 ∷ []) $ join ! $ move ! (1 ∷ 2 ∷ []) $ join ! $ join ! $ done !
 
       module _ (f : Name) (C : Calls 𝓤 H) (Λ : Loops 𝓤 H) (fm : FmC 𝓤 H (W .laws) C) (known : Triple 𝓤 (C f) Core) where
         walk : Is (MutSlice (named 1) κ₁ u16) x₀ (slice-vals x₀) → Is (MutSlice (named 2) κ₂ u16) x₁ (slice-vals x₁) → Is (MutSlice (named 3) κ₃ u16) x₂ (slice-vals x₂)
-            → ent 𝓤 (walkOf 𝓤 H A (ended3 (S .ans)) (stayed (S .ans)) c .pre (((κ, κt), (q, qt), tt, x, (vptr b o ∷ [], zv)), g)) (WpFn 𝓤 H C Λ (take3 (S .ansTy) (resTy S) f) (vptr b o ∷ vint w64 n ∷ vint w64 m ∷ sliceVal (x₀ .ptr) (length (x₀ .now)) ∷ sliceVal (x₁ .ptr) (length (x₁ .now)) ∷ sliceVal (x₂ .ptr) (length (x₂ .now)) ∷ []) Post)
+            → ent 𝓤 (walkOf 𝓤 H A (take-ended (S .ans)) (stayed (S .ans)) c .pre (((κ, κt), (q, qt), tt, x, (vptr b o ∷ [], zv)), g)) (WpFn 𝓤 H C Λ (take-code (S .ansTy) (resTy S) f) (vptr b o ∷ vint w64 n ∷ vint w64 m ∷ sliceVal (x₀ .ptr) (length (x₀ .now)) ∷ sliceVal (x₁ .ptr) (length (x₁ .now)) ∷ sliceVal (x₂ .ptr) (length (x₂ .now)) ∷ []) Post)
         walk p₀ p₁ p₂ =
             qed W (((‵ (flft κ q) ⊛ lent) ⊛ ‵ (owns (MutRef (named 0) κ B.the-row ∷ rs) x (vptr b o ∷ [], zv))) ∷ raw (c (κ, κt) x .requires g) ∷ []) ∵ split ! $ split ! $ move ! (2 ∷ []) $ fsplit ! $ fsplit3 ! $ drop ! $ move ! (0 ∷ 1 ∷ 3 ∷ 4 ∷ 2 ∷ []) $
             -- [obs; the borrow; the token; the slices' tokens; what else was passed; the requires]
-            enter ! C Λ (take3 (S .ansTy) (resTy S) f) (vptr b o ∷ vint w64 n ∷ vint w64 m ∷ sliceVal (x₀ .ptr) (length (x₀ .now)) ∷ sliceVal (x₁ .ptr) (length (x₁ .now)) ∷ sliceVal (x₂ .ptr) (length (x₂ .now)) ∷ []) _ $
+            enter ! C Λ (take-code (S .ansTy) (resTy S) f) (vptr b o ∷ vint w64 n ∷ vint w64 m ∷ sliceVal (x₀ .ptr) (length (x₀ .now)) ∷ sliceVal (x₁ .ptr) (length (x₁ .now)) ∷ sliceVal (x₂ .ptr) (length (x₂ .now)) ∷ []) _ $
             alloc1 ! (λ l₀. alloc1 ! (λ l₁. alloc1 ! (λ l₂. alloc1 ! (λ l₃. alloc1 ! (λ l₄. alloc1 ! (λ l₅. alloc1 ! (λ l₆. alloc1 ! (λ l₇. alloc1 ! (λ l₈. alloc1 ! (λ l₉. alloc1 ! (λ l₁₀. alloc1 ! (λ l₁₁. alloc1 ! (λ l₁₂. alloc1 ! (λ l₁₃. alloc1 ! (λ l₁₄. alloc0 ! $ params1 ! $
             pass1 ! (init ! 26 refl (tt, tt)) $ pass1 ! (init ! 24 refl (tt, record { fits = n-fits })) $ pass1 ! (init ! 22 refl (tt, record { fits = m-fits })) $
             pass1 ! (init ! 20 refl (tt, (tt, (record { fits = p₀ .0 .1 .0 }, tt)))) $ pass1 ! (init ! 18 refl (tt, (tt, (record { fits = p₁ .0 .1 .0 }, tt)))) $ pass1 ! (init ! 16 refl (tt, (tt, (record { fits = p₂ .0 .1 .0 }, tt)))) $ pass0 ! $
@@ -191,9 +193,9 @@ module _ (S : Shape) {M : Type 1} (𝓤 : URA M) (H : Heap 𝓤) (A : Atoms 𝓤
             assigns ! (agg ! (and-then ! (load ! (from ! (stop !)) (look ! 6 refl)) (and-then ! (load ! (from ! (fld ! refl (stop !))) (look-in ! 20 (sub ! 1 refl (whole !)))) (no-more !)))) (from ! (stop !)) (init ! 4 refl (tt, (tt, (record { fits = p₂ .0 .1 .0 }, tt)))) $
             move ! (34 ∷ 35 ∷ 36 ∷ []) $ use3 W (raw (Core .pre to-core)) (goes-core was) $
             calls-at ! fm Core known to-core (and-then ! (load ! (from ! (stop !)) (look ! 17 refl)) (and-then ! (load ! (from ! (stop !)) (look ! 29 refl)) (and-then ! (load ! (from ! (stop !)) (look ! 27 refl)) (and-then ! (load ! (from ! (stop !)) (look ! 13 refl)) (and-then ! (load ! (from ! (stop !)) (look ! 9 refl)) (and-then ! (load ! (from ! (stop !)) (look ! 5 refl)) (no-more !))))))) (λ v.
-            use1 W (later (some (λ (r : S .res .Denot). (lent ⊛ ‵ (S .res .own r (v ∷ []))) ⊛ raw (ensured 𝓤 H A (core3 (S .res)) cc κt (h, z) (hands (κ, κt) x g .0) r)))) (id⊢ 𝓤 _) $ await ! tt $ pick ! (λ r.
+            use1 W (later (some (λ (r : S .res .Denot). (lent ⊛ ‵ (S .res .own r (v ∷ []))) ⊛ raw (ensured 𝓤 H A (take-core-ended (S .res)) cc κt (h, z) (hands (κ, κt) x g .0) r)))) (id⊢ 𝓤 _) $ await ! tt $ pick ! (λ r.
             -- what the core ensures, at some last lists
-            split ! $ move ! (1 ∷ []) $ use1 W (some (λ (ws : LastsOf). ‵ (lasts (core3 (S .res)) κt (h, z) ws) ⊛ raw (cc κt (h, z) .ensures (hands (κ, κt) x g .0) r (atExit (core3 (S .res)) κt (h, z) ws)))) (id⊢ 𝓤 _) $ pick ! (λ ws.
+            split ! $ move ! (1 ∷ []) $ use1 W (some (λ (ws : LastsOf). ‵ (lasts (take-core-ended (S .res)) κt (h, z) ws) ⊛ raw (cc κt (h, z) .ensures (hands (κ, κt) x g .0) r (atExit (take-core-ended (S .res)) κt (h, z) ws)))) (id⊢ 𝓤 _) $ pick ! (λ ws.
             split ! $ move ! (1 ∷ []) $ use1 W (raw (ens r ws)) (hands (κ, κt) x g .1 .1 r ws) $ move ! (1 ∷ []) $ fsplit ! $ drop ! $ fsplit ! $ drop ! $ fsplit ! $ drop ! $
             fsplit ! $ fsplit ! $ move ! (1 ∷ []) $ feqL ! (λ e₀. move ! (1 ∷ []) $ fsplit ! $ fsplit ! $ move ! (1 ∷ []) $ feqL ! (λ e₁. move ! (1 ∷ []) $ fsplit ! $ fsplit ! $ move ! (1 ∷ []) $ feqL ! (λ e₂.
             -- [the last list of the third slice; true; of the second; of the first; the ensures; the tokens and the result; the book's cell; …]
@@ -208,12 +210,12 @@ module _ (S : Shape) {M : Type 1} (𝓤 : URA M) (H : Heap 𝓤) (A : Atoms 𝓤
             move ! (37 ∷ 38 ∷ []) $ free1 ! $ move ! (35 ∷ 36 ∷ []) $ free1 ! $ move ! (33 ∷ 34 ∷ []) $ free1 ! $ move ! (31 ∷ 32 ∷ []) $ free1 ! $ move ! (29 ∷ 30 ∷ []) $ free1 ! $ move ! (27 ∷ 28 ∷ []) $ free1 ! $ move ! (25 ∷ 26 ∷ []) $ free1 ! $ move ! (23 ∷ 24 ∷ []) $ free1 ! $ move ! (21 ∷ 22 ∷ []) $ free1 ! $ move ! (19 ∷ 20 ∷ []) $ free1 ! $ move ! (17 ∷ 18 ∷ []) $ free1 ! $ move ! (15 ∷ 16 ∷ []) $ free1 ! $ move ! (13 ∷ 14 ∷ []) $ free1 ! $ move ! (11 ∷ 12 ∷ []) $ free1 ! $ move ! (9 ∷ 10 ∷ []) $ free1 ! $ free0 ! $
             keep ! (0 ∷ 1 ∷ 2 ∷ 3 ∷ 4 ∷ 5 ∷ 6 ∷ 7 ∷ []) $ by ! (exits r ws e₀ e₁ e₂ (S .an r (v ∷ []) is))))))))))))))))))))))))))
 
-  walks : Hands → (f : Name) (C : Calls 𝓤 H) (Λ : Loops 𝓤 H) → FmC 𝓤 H (W .laws) C → Triple 𝓤 (C f) Core → Walks 𝓤 H A (ended3 (S .ans)) (stayed (S .ans)) (WpFn 𝓤 H C Λ (take3 (S .ansTy) (resTy S) f)) c
-  walks hands f C Λ fm known = walked 𝓤 H A (ended3 (S .ans)) (stayed (S .ans)) c (WpFn 𝓤 H C Λ (take3 (S .ansTy) (resTy S) f)) (λ κs. (ptr-vals, (uint-vals w64, (uint-vals w64, (slice-vals, (slice-vals, (slice-vals, tt)))))))
+  walks : Hands → (f : Name) (C : Calls 𝓤 H) (Λ : Loops 𝓤 H) → FmC 𝓤 H (W .laws) C → Triple 𝓤 (C f) Core → Walks 𝓤 H A (take-ended (S .ans)) (stayed (S .ans)) (WpFn 𝓤 H C Λ (take-code (S .ansTy) (resTy S) f)) c
+  walks hands f C Λ fm known = walked 𝓤 H A (take-ended (S .ans)) (stayed (S .ans)) c (WpFn 𝓤 H C Λ (take-code (S .ansTy) (resTy S) f)) (λ κs. (ptr-vals, (uint-vals w64, (uint-vals w64, (slice-vals, (slice-vals, (slice-vals, tt)))))))
       (λ κs. (mut-tells (named 0) (κs .0) B.the-row, (uint-tells w64, (uint-tells w64, (mut-slice-tells (named 1) (κs .1 .0) u16, (mut-slice-tells (named 2) (κs .1 .1 .0) u16, (mut-slice-tells (named 3) (κs .1 .1 .1 .0) u16, tt)))))))
       (λ κs qs bounds a g are. walk hands (κs .0) (κs .1 .0) (κs .1 .1 .0) (κs .1 .1 .1 .0) (qs .0) (qs .1 .0) (qs .1 .1 .0) (qs .1 .1 .1 .0) (a .0 .ptr .0) (a .0 .ptr .1) (a .0 .name) (a .0 .now) (a .1 .0) (a .1 .1 .0) (are .1 .0 .1) (are .1 .1 .0 .1) (a .1 .1 .1 .0) (a .1 .1 .1 .1 .0) (a .1 .1 .1 .1 .1 .0) g f C Λ fm known (are .1 .1 .1 .0) (are .1 .1 .1 .1 .0) (are .1 .1 .1 .1 .1 .0))
 
-  goes : AllGo 𝓤 H A W 4 (ended3 (S .ans) .signature .params) (ended3 (S .ans) .kept) (stayed (S .ans))
+  goes : AllGo 𝓤 H A W 4 (take-ended (S .ans) .signature .params) (take-ended (S .ans) .kept) (stayed (S .ans))
   goes = (
     goes-ref 𝓤 H A W 4 0 tt (plain (λ _. B.the-row)),
     (
@@ -225,5 +227,5 @@ module _ (S : Shape) {M : Type 1} (𝓤 : URA M) (H : Heap 𝓤) (A : Atoms 𝓤
     ),
   )
 
-  pub takes3 : Hands → (f : Name) (𝓣 : Tables 𝓤 H) → Triple 𝓤 (𝓣 .C f) Core → Meets 𝓤 H A (ended3 (S .ans) .signature) (WpFn 𝓤 H (𝓣 .C) (𝓣 .Λ) (take3 (S .ansTy) (resTy S) f)) (closing 𝓤 H A (ended3 (S .ans)) c)
-  takes3 hands f 𝓣 known = walk-meets 𝓤 H A (ended3 (S .ans)) (stayed (S .ans)) W goes c (WpFn 𝓤 H (𝓣 .C) (𝓣 .Λ) (take3 (S .ansTy) (resTy S) f)) (WpFn-mono 𝓤 H (W .laws) 𝓣 (take3 (S .ansTy) (resTy S) f)) (walks hands f (𝓣 .C) (𝓣 .Λ) (fmOf 𝓤 H (W .laws) 𝓣) known)
+  pub take-meets : Hands → (f : Name) (𝓣 : Tables 𝓤 H) → Triple 𝓤 (𝓣 .C f) Core → Meets 𝓤 H A (take-ended (S .ans) .signature) (WpFn 𝓤 H (𝓣 .C) (𝓣 .Λ) (take-code (S .ansTy) (resTy S) f)) (closing 𝓤 H A (take-ended (S .ans)) c)
+  take-meets hands f 𝓣 known = walk-meets 𝓤 H A (take-ended (S .ans)) (stayed (S .ans)) W goes c (WpFn 𝓤 H (𝓣 .C) (𝓣 .Λ) (take-code (S .ansTy) (resTy S) f)) (WpFn-mono 𝓤 H (W .laws) 𝓣 (take-code (S .ansTy) (resTy S) f)) (walks hands f (𝓣 .C) (𝓣 .Λ) (fmOf 𝓤 H (W .laws) 𝓣) known)
