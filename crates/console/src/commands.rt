@@ -1,5 +1,6 @@
 // Which command a line is. Each function tries the names of its group, and hands what it does not know on to the next.
 use crate::answers::error;
+use crate::books;
 use crate::given;
 use crate::listing;
 use crate::runs;
@@ -59,7 +60,23 @@ fn on_diagrams(name: &[u8], line: &[u8], words: Words, out: &mut [u8], at: usize
     on_words(name, line, words, out, at)
 }
 
-// The commands that alter something come first; the others leave the state as it was.
+fn on_book(name: &[u8], line: &[u8], words: Words, state: State, out: &mut [u8], at: usize) -> Done {
+    if is(name, b"set") {
+        return books::set(line, words, state, out, at);
+    }
+    if is(name, b"book") {
+        let book = state.book;
+        return Done {
+            state,
+            at: books::show(words, book, out, at),
+        };
+    }
+    Done {
+        state,
+        at: on_diagrams(name, line, words, out, at),
+    }
+}
+
 pub fn command(line: &[u8], state: State, out: &mut [u8], at: usize) -> Done {
     let words = split(line);
     let name = word(line, words, 0);
@@ -69,8 +86,5 @@ pub fn command(line: &[u8], state: State, out: &mut [u8], at: usize) -> Done {
     if is(name, b"step") {
         return runs::step(line, words, state, out, at);
     }
-    Done {
-        state,
-        at: on_diagrams(name, line, words, out, at),
-    }
+    on_book(name, line, words, state, out, at)
 }

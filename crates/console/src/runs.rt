@@ -29,9 +29,10 @@ pub fn begin(line: &[u8], words: Words, state: State, out: &mut [u8], at: usize)
     match answer {
         Beginning::Begun => {
             let run = begun.run;
-            let skips = state.skips;
+            let mut next = state;
+            next.run = run;
             Done {
-                state: State { skips, run },
+                state: next,
                 at: ok(out, at),
             }
         }
@@ -99,9 +100,10 @@ pub fn step(line: &[u8], words: Words, state: State, out: &mut [u8], at: usize) 
         at,
     );
     let run = stepped.run;
-    let skips = state.skips;
+    let mut next = state;
+    next.run = run;
     Done {
-        state: State { skips, run },
+        state: next,
         at: stepped.at,
     }
 }
