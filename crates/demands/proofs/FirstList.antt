@@ -168,8 +168,7 @@ module _ (n k : ℕ) (N : Edge 50 n) (K : Edge 32 k) (calls : List Call) where
   records tick t p e =
       let z = committed-number b tick t p e in
       let G = commit-good n k b C ledger tick t p z in
-      let H = due-held t (holder b t) (G .good .stands) in
-      (
+      let H = due-held t (holder b t) (G .good .stands) in (
         rw (G .names) (due-in-place (holder b t) H),
         rw (G .names) (next-uncommitted ledger (holder b t) H),
         commits-snoc (opened n k) calls (commit tick t p) ∙ ap (λ (l : List ℕ). C ++ l) (named-one tick t p z),

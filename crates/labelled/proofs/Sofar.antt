@@ -204,6 +204,7 @@ module _ (s0 s1 : List ℕ) (root : ℕ) (la od nx pv : List ℕ) (c : ℕ) (w a
       size-is : length s0 ≡ c
       size-is = sym (F .sofar .underway .holds .given-is ∙ ap length (sym (end .1)) ∙ labels-whole s0 s1 root A)
 
+-- the list that the loop found had the first item already
 pub wrote-first : (s0 s1 : List ℕ) (root : ℕ) (la od nx pv a b : List ℕ) (v m : ℕ) → Wrote s0 s1 root la od nx pv (set a 0 v) b m → Wrote s0 s1 root la od nx pv a b m
 unfolding wordOf label
 wrote-first s0 s1 root la od nx pv a b v m w = record {

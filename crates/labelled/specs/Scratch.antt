@@ -1,13 +1,14 @@
--- The labelling of a diagram in lent arrays: `labels` by edge and `order` by label, and the pending ring of edges. What the contracts say
--- of the arrays, in terms of the labelling's own lists: the labelled edges o, the last labelled first, and the pending edges st, the top first.
+-- The labelling of a diagram in lent arrays: what the contracts say of the arrays, in terms of the labelling's own lists, the labelled
+-- edges o, the last labelled first, and the pending edges st, the top first. The arrays are la (labels, by edge), od (order, the edge of
+-- each label), and nx and pv (the links of the pending ring, which holds edges).
 --
---   Holds labels order given o       the two arrays hold the labels of the edges o, of which there are `given`
---   HoldsSome labels order given     .. of some edges, all different
---   Underway s0 s1 .. given o st     the diagram's labelling stands at o and st, and the arrays hold it
---   opening s0 root                  the labelling's first event
---   Did s0 s1 .. v e                 the arrays hold what the event v left, and e is its item and the number of labels given
---   Ready ..                         no edge is labelled and none pending: the arrays are fit for the next labelling
---   Wrote ..                         a whole labelling: its word written, its labels held
+--   Holds la od given o                  the labels of the edges o, of which there are `given`
+--   HoldsSome la od given                .. of some edges, all different
+--   Underway s0 s1 la od nx pv given o st   the labelling of the diagram s0, s1 stands at o and st, and the arrays hold it
+--   opening s0 root                      the labelling's first event
+--   Did s0 s1 la od nx pv v e            the arrays hold what the event v left; e is its item and the number of labels given
+--   Ready la od nx pv                    no edge is labelled and none pending: fit for the next labelling
+--   Wrote s0 s1 root la od nx pv a b m   a whole labelling: its word, of length m, is written into the list a, now b, and its labels are held
 use mathlib.Core.Path.{_≡_}
 use mathlib.Core.List.{List, [], _++_}
 use Prim.Native.Nat.{ℕ, suc, _≤_, _<_}
@@ -55,7 +56,7 @@ pub record Ready (la od nx pv : List ℕ) : Type 0 where
   pub unlabelled : Holds la od 0 []
   pub empty : Ring nx pv []
 
--- the word is written before what the list held, and the arrays hold the whole labelling
+-- the word stands before what the list held
 pub record Wrote (s0 s1 : List ℕ) (root : ℕ) (la od nx pv a b : List ℕ) (m : ℕ) : Type 0 where
   pub length-is : m ≡ length (wordOf s0 s1 root)
   pub few : m ≤ suc (length s0)

@@ -3,7 +3,7 @@
 --
 --   goesOn own i x top     the trace goes on after the item x at place i: own has it there too, and an edge is pending
 --   Traced s0 s1 x own c   c begins the word of the rooting x; whether it precedes own, and whether it is own, it shares with that word
---   Followed ..            the trace with the arrays it leaves
+--   Followed ..            a trace before the arrays are cleared: the labels it gave, the edges it left pending, and what it wrote
 use mathlib.Core.Path.{_≡_}
 use mathlib.Core.Bool.{Bool, false}
 use mathlib.Core.List.{List}

@@ -58,11 +58,14 @@ module _ (s0 s1 : List ℕ) (root : ℕ) (A : Accepts s0 s1 root) where
   entry-1 x e = sym (at-listed (relabel M (at s1)) n x e)
 
   accepted : Accepts t0 t1 1
-  accepted = accepts-rooted t0 t1 1 .1 (rw length-listed (A .size), record {
-    lengths = length-listed _ n ∙ sym (length-listed _ n);
-    root-in = rw length-listed (edge-one (diagram .maps));
-    diagram = rw length-listed (diagram-same (relabelled n (at s0) (at s1) diagram root (A .root-in) M marked) entry-0 entry-1);
-  })
+  accepted = accepts-rooted t0 t1 1 .1 (
+    rw length-listed (A .size),
+    record {
+      lengths = length-listed _ n ∙ sym (length-listed _ n);
+      root-in = rw length-listed (edge-one (diagram .maps));
+      diagram = rw length-listed (diagram-same (relabelled n (at s0) (at s1) diagram root (A .root-in) M marked) entry-0 entry-1);
+    },
+  )
 
   joined : Isomorphism n (at s0) (at s1) (at t0) (at t1) (lab M)
   joined = isomorphism-same (carries n (at s0) (at s1) diagram root (A .root-in) M marked) entry-0 entry-1

@@ -2,7 +2,7 @@
 use mathlib.Core.Path.{_≡_, refl, ap, _∙_}
 use mathlib.Core.List.{List, [], _∷_, _++_, append-assoc, append-nil}
 use Prim.Native.Nat.{ℕ, zero, suc, _+_, _*_, _-_, _/_, _%_, _≤_, _<_}
-use native.Mathlib.Nat.{not-suc-le-zero, zero-mul, mod-lt, div-lt-iff-lt-mul}
+use native.Mathlib.Nat.{mod-lt}
 use native.Mathlib.Omega.{arith}
 use lib.ListN.{length, set}
 use Rattle.lists.proofs.Lists.{length-1}
@@ -52,7 +52,10 @@ module _ (height h f i : ℕ) (e : height ≡ suc h) (r : 3 * height + f ≤ 56)
           let y : suc g - 1 ≡ g = omega arith in
           rw y record {
             first = λ m. rw (lt-false i (ways h (suc g)) a, lt-false (i - ways h (suc g)) (forks h (suc g)) b, lt-true (i - ways h (suc g) - forks h (suc g)) (buds h (suc g)) c);
-            region = omega arith; within = unfold buds in c; falls = omega arith }
+            region = omega arith;
+            within = unfold buds in c;
+            falls = omega arith;
+          }
 
   -- past W, F and B: h blocks of the J, all of one length
   module _ (a : ways h f ≤ i) (b : forks h f ≤ i - ways h f) (c : buds h f ≤ i - ways h f - forks h f) (l : i < ways height f) where
@@ -62,26 +65,15 @@ module _ (height h f i : ℕ) (e : height ≡ suc h) (r : 3 * height + f ≤ 56)
     in-blocks : rest < h * ways (pre h) f
     in-blocks = let z = rw (e, ways-parts) at l in omega arith
 
-    jump-some : (1 ≤ h) × (0 < ways (h - 1) f) × (rest / ways (h - 1) f < h)
-    jump-some = go h in-blocks
-      where
-        go : (h : ℕ) → rest < h * ways (pre h) f → (1 ≤ h) × (0 < ways (h - 1) f) × (rest / ways (h - 1) f < h)
-        go zero q = absurd (not-suc-le-zero (rw zero-mul at q))
-        go (suc g) q =
-            let y : suc g - 1 ≡ g = omega arith in
-            let p = block-some (suc g) (ways g f) rest q in
-            rw y (omega arith, p, div-lt-iff-lt-mul p .1 q)
-
     chosen-J : Chosen height f i (3 + rest / ways (h - 1) f) (h - 1) f (rest % ways (h - 1) f)
     unfolding unranked
     chosen-J =
-        let s = jump-some in
-        let y : h - 1 ≡ pre h = lowered h in
-        rw (e, y) record {
+        rw (e, lowered h) record {
           first = λ m. rw (lt-false i (ways h f) a, lt-false (i - ways h f) (forks h f) b, lt-false (i - ways h f - forks h f) (buds h f) c) (jump-divides 3 h (ways (pre h) f) rest (λ k. unranked m (pre h) f k) in-blocks);
           region = let z = pre-le h in omega arith;
           within = mod-lt rest (block-some h (ways (pre h) f) rest in-blocks);
-          falls = let z = pre-le h in omega arith }
+          falls = let z = pre-le h in omega arith;
+        }
 
 -- the same with the numbers as they were looked up
 module _ (height h f i a b c : ℕ) (e : height ≡ suc h) (r : 3 * height + f ≤ 56) (l : i < ways height f) (welds : a ≡ ways h f) (fork : b ≡ forks h f) (bud : c ≡ buds h f) where
@@ -97,16 +89,11 @@ module _ (height h f i a b c : ℕ) (e : height ≡ suc h) (r : 3 * height + f �
       (buds-some h f (i - ways h f - forks h f) o′, rw (welds, fork) (chosen-B height h f i e r (rw welds at m) (rw (welds, fork) at n) o′))
 
   module _ (m : a ≤ i) (n : b ≤ i - a) (o : c ≤ i - a - b) where
-    pub jump-deep : 1 ≤ h
-    jump-deep = jump-some height h f i e r (rw welds at m) (rw (welds, fork) at n) (rw (welds, fork, bud) at o) l .0
+    pub jump-within : i - a - b - c < h * ways (h - 1) f
+    jump-within = rw (welds, fork, bud, lowered h) (in-blocks height h f i e r (rw welds at m) (rw (welds, fork) at n) (rw (welds, fork, bud) at o) l)
 
-    pub found-J : (k : ℕ) → k ≡ ways (h - 1) f → (0 < k) × ((i - a - b - c) / k < h) × Chosen height f i (3 + (i - a - b - c) / k) (h - 1) f ((i - a - b - c) % k)
-    found-J k block =
-        let m′ = rw welds at m in
-        let n′ = rw (welds, fork) at n in
-        let o′ = rw (welds, fork, bud) at o in
-        let s = jump-some height h f i e r m′ n′ o′ l in
-        rw (welds, fork, bud, block) (s .1, s .2, chosen-J height h f i e r m′ n′ o′ l)
+    pub found-J : Chosen height f i (3 + (i - a - b - c) / ways (h - 1) f) (h - 1) f ((i - a - b - c) % ways (h - 1) f)
+    found-J = rw (welds, fork, bud) (chosen-J height h f i e r (rw welds at m) (rw (welds, fork) at n) (rw (welds, fork, bud) at o) l)
 
 -- ---- what is written
 
@@ -137,7 +124,8 @@ module _ (W a b : List ℕ) (at height free place : ℕ) (U : Unranking W a b at
         enough = let z = C .falls in omega arith;
         room = omega arith;
         region = C .region;
-        within = C .within }
+        within = C .within;
+      }
 
   pub unranking-end : height ≡ 0 → (at ≡ length W) × (b ≡ over W a)
   unranking-end e =

@@ -3,7 +3,7 @@ use mathlib.Core.Path.{_≡_, refl}
 use mathlib.Core.Logic.{_⊎_, inl, inr}
 use mathlib.Core.List.{List, _∷_}
 use Prim.Native.Nat.{ℕ, zero, suc, _+_, _*_, _-_, _/_, _%_, _≤_, _<_}
-use native.Mathlib.Nat.{not-suc-le-zero, zero-mul, mul-zero, suc-mul, div-eq-of-lt, div-eq-sub-div, mod-eq-of-lt, mod-eq-sub-mod}
+use native.Mathlib.Nat.{not-suc-le-zero, zero-mul, mul-zero, suc-mul, div-eq-of-lt, div-lt-iff-lt-mul, div-eq-sub-div, mod-eq-of-lt, mod-eq-sub-mod}
 use native.Mathlib.Omega.{arith}
 use Rattle.lists.proofs.Tests.{lt-true, lt-false, lt?}
 use Rattle.words.specs.Shape.{pre}
@@ -62,6 +62,9 @@ buds-some h f i l = go (lt? f 1)
 pub block-some : (j n i : ℕ) → i < j * n → 0 < n
 block-some j zero i l = absurd (not-suc-le-zero (rw mul-zero at l))
 block-some j (suc n) i l = omega arith
+
+pub block-place : (j n i : ℕ) → i < j * n → i / n < j
+block-place j n i l = div-lt-iff-lt-mul (block-some j n i l) .1 l
 
 pub jump-divides : (x j n i : ℕ) (k : ℕ → List ℕ) → i < j * n → jump x j n i k ≡ (x + i / n) ∷ k (i % n)
 jump-divides x zero n i k l = absurd (not-suc-le-zero (rw zero-mul at l))

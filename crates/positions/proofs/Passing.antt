@@ -62,9 +62,6 @@ module _ (height h f : ℕ) (w : List ℕ) (e : height ≡ suc h) (r : 3 * heigh
   pub sum-B : Fits height f (2 ∷ w) → ways h f + forks h f < 2 ^ 49
   sum-B a = let x = passed-B a .rank-is in let y = rank-small height f (2 ∷ w) r a in omega arith
 
-pub deep-J : (h f d : ℕ) (w : List ℕ) → Fits (suc h) f (suc (suc (suc d)) ∷ w) → 1 ≤ h
-deep-J h f d w a = let z = a .0 in omega arith
-
 pub passed-J : (h f d : ℕ) (w : List ℕ) → 3 * h + f ≤ 53 → Fits (suc h) f (suc (suc (suc d)) ∷ w) → Passed (suc h) f (suc (suc (suc d))) w (ways h f + forks h f + buds h f + d * ways (h - 1) f) (h - 1) f
 unfolding rank
 passed-J h f d w r a =

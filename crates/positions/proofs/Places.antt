@@ -84,7 +84,8 @@ begun-U (suc f) (suc i) a e q r l =
       enough = omega arith;
       room = omega arith;
       region = omega arith;
-      within = b }
+      within = b;
+    }
 
 -- otherwise T
 pub T-some : (n p : ℕ) → Edge 50 n → Edge (count n) p → ways 1 (n - 1) ≤ p - 1 → (3 ≤ n) × (p - 1 - ways 1 (n - 1) < ways 3 (n - 3))
@@ -116,7 +117,8 @@ begun-T n p a e q r l = let s = T-some n p e q l in go n p e (q .0) r l (s .0) (
           enough = omega arith;
           room = omega arith;
           region = omega arith;
-          within = b′ }
+          within = b′;
+        }
 
 -- ---- the position of a word
 

@@ -1,6 +1,6 @@
 // The position of a word: for each item, how many ways to go on begin with an event before it.
-use crate::blocks::forks;
 use crate::blocks::buds;
+use crate::blocks::forks;
 use lists::wide;
 ghost use mathlib.Core.Path.{_≡_};
 ghost use mathlib.Core.List.{List, _∷_};
@@ -26,7 +26,11 @@ fn jumped(h: usize, free: usize, d: usize) -> Block
 {
     let before = table::ways(h, free) + forks(h, free) + buds(h, free);
     let block = table::ways(h - 1, free);
-    Block { before: before + (d as u64) * block, height: h - 1, free }
+    Block {
+        before: before + (d as u64) * block,
+        height: h - 1,
+        free,
+    }
 }
 
 fn pass(height: usize, free: usize, item: u16) -> Block
@@ -36,9 +40,21 @@ fn pass(height: usize, free: usize, item: u16) -> Block
 {
     let h = height - 1;
     match item {
-        0 => Block { before: 0, height: h, free },
-        1 => Block { before: table::ways(h, free), height: h + 2, free: free - 3 },
-        2 => Block { before: table::ways(h, free) + forks(h, free), height: h, free: free - 1 },
+        0 => Block {
+            before: 0,
+            height: h,
+            free,
+        },
+        1 => Block {
+            before: table::ways(h, free),
+            height: h + 2,
+            free: free - 3,
+        },
+        2 => Block {
+            before: table::ways(h, free) + forks(h, free),
+            height: h,
+            free: free - 1,
+        },
         _ => jumped(h, free, wide(item - 3)),
     }
 }

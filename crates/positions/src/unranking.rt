@@ -1,9 +1,9 @@
 // The word at a position, item by item: the event in whose block the place falls, then the place within that block.
-use crate::blocks::forks;
 use crate::blocks::buds;
+use crate::blocks::forks;
 ghost use mathlib.Core.Path.{_≡_};
 ghost use mathlib.Core.List.{List};
-ghost use Prim.Native.Nat.{ℕ, suc, _+_, _*_, _≤_, _<_};
+ghost use Prim.Native.Nat.{ℕ, suc, _+_, _*_, _-_, _/_, _%_, _≤_, _<_};
 ghost use lib.ListN.{length};
 ghost use Rattle.lists.specs.Ranges.{Edge};
 ghost use Rattle.words.specs.Outputs.{over};
@@ -19,6 +19,20 @@ pub struct Choice {
     place: u64,
 }
 
+// Jd: the block that the place falls in, all blocks of the J being of one length.
+fn jump(h: usize, free: usize, place: u64) -> Choice
+    requires { ⌜ (3 * h + free ≤ 53) × (place < h * ways (h - 1) free) ⌝ }
+    ensures { λ r. ⌜ (r .item ≡ 3 + place / ways (h - 1) free) × (r .height ≡ h - 1) × (r .free ≡ free) × (r .place ≡ place % ways (h - 1) free) ⌝ }
+{
+    let block = table::ways(h - 1, free);
+    Choice {
+        item: 3 + (place / block) as u16,
+        height: h - 1,
+        free,
+        place: place % block,
+    }
+}
+
 // The first item of the way to go on at a place.
 fn choose(height: usize, free: usize, place: u64) -> Choice
     requires { ⌜ (1 ≤ height) × (3 * height + free ≤ 56) × (place < ways height free) ⌝ }
@@ -27,21 +41,34 @@ fn choose(height: usize, free: usize, place: u64) -> Choice
     let h = height - 1;
     let welded = table::ways(h, free);
     if place < welded {
-        return Choice { item: 0, height: h, free, place };
+        return Choice {
+            item: 0,
+            height: h,
+            free,
+            place,
+        };
     }
     let past_welds = place - welded;
     let forked = forks(h, free);
     if past_welds < forked {
-        return Choice { item: 1, height: h + 2, free: free - 3, place: past_welds };
+        return Choice {
+            item: 1,
+            height: h + 2,
+            free: free - 3,
+            place: past_welds,
+        };
     }
     let past_forks = past_welds - forked;
     let budded = buds(h, free);
     if past_forks < budded {
-        return Choice { item: 2, height: h, free: free - 1, place: past_forks };
+        return Choice {
+            item: 2,
+            height: h,
+            free: free - 1,
+            place: past_forks,
+        };
     }
-    let rest = past_forks - budded;
-    let block = table::ways(h - 1, free);
-    Choice { item: 3 + (rest / block) as u16, height: h - 1, free, place: rest % block }
+    jump(h, free, past_forks - budded)
 }
 
 // Writes the items from `at` on and returns the word's length.

@@ -81,14 +81,16 @@ ticket-good b tick t rest e =
     let r = zero-unless (tick-in b tick) 52 _ (omega arith) (q .1) in
     let s = zero-unless (not (eqb (holder b t) 0)) 58 _ (omega arith) (r .1) in
     let u = zero-unless (not (leb (expiry b (holder b t)) tick)) 59 _ (omega arith) (s .1) in
-    let f = tick-facts b tick (r .0) in
-    (record {
-      is-sound = sound-facts b (q .0);
-      later = f .0;
-      tick-small = f .1;
-      stands = holder-stands b t (eqb-false _ _ (not-true _ (s .0)));
-      unlapsed = not-leb _ _ (not-true _ (u .0));
-    }, u .1)
+    let f = tick-facts b tick (r .0) in (
+      record {
+        is-sound = sound-facts b (q .0);
+        later = f .0;
+        tick-small = f .1;
+        stands = holder-stands b t (eqb-false _ _ (not-true _ (s .0)));
+        unlapsed = not-leb _ _ (not-true _ (u .0));
+      },
+      u .1,
+    )
 
 -- a share with a ticket is not finished
 pub ticket-unfinished : (b : Book) (t j : ℕ) → SoundBook b → Stands b t j → next b j ≤ last (b .size) (b .shares) j

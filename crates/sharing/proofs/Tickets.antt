@@ -106,8 +106,7 @@ module _ (b : Book) (S : SoundBook b) (L : Long b) (t : ℕ) (G : Gone b t) wher
   good-gone : (tick u p : ℕ) → TicketGood b tick u → Gone (entered b tick (b .issued) (holder b u) p 0 0) t × Gone (entered b tick (b .issued) (holder b u) p (at (b .ticket) (holder b u)) (at (b .expiry) (holder b u))) t
   good-gone tick u p T =
       let j = holder b u in
-      let i = in-32 j (T .stands .share-in) in
-      (
+      let i = in-32 j (T .stands .share-in) in (
         entered-gone b tick (b .issued) j p 0 0 t L i (omega arith) (none-than t) G,
         entered-gone b tick (b .issued) j p (at (b .ticket) j) (at (b .expiry) j) t L i (omega arith) (other-than b t j (G .nowhere) (T .stands .share-in)) G,
       )

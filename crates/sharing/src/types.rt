@@ -27,7 +27,11 @@ pub enum Claiming {
 }
 
 pub enum Taking {
-    Given { share: u64, position: u64, length: u64 },
+    Given {
+        share: u64,
+        position: u64,
+        length: u64,
+    },
     Refused(u16),
 }
 

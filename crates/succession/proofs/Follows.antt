@@ -25,7 +25,7 @@ pub cons-not : (x : ℕ) (w : List ℕ) → (x ∷ w) ≢ []
 cons-not x w e = let z : _≡_ {A = ℕ} 0 1 = cc in omega arith
 
 -- P by the first item: a x is the level after the item x
-module _ (P : List ℕ → Type 0) (a : ℕ → Level) (empty : ¬ P []) (to : (x : ℕ) (w : List ℕ) → P (x ∷ w) → From (a x) w) (from : (x : ℕ) (w : List ℕ) → From (a x) w → P (x ∷ w)) where
+module _ (P : List ℕ → Type 0) (a : ℕ → Level) (to : (x : ℕ) (w : List ℕ) → P (x ∷ w) → From (a x) w) (from : (x : ℕ) (w : List ℕ) → From (a x) w → P (x ∷ w)) where
   -- the word goes on after x
   further : (x : ℕ) (w v : List ℕ) → v ≢ [] → Follows (From (a x)) w v → Follows P (x ∷ w) (x ∷ v)
   further x w v n F = record { none = λ e. absurd (cons-not x v e); some = λ e. let i = F .some n in (from x v (i .0), inr (refl, i .1)); nearest = near }
@@ -75,12 +75,12 @@ ways-follow [] zero zero p = record { none = λ e. alone; some = λ n. absurd (n
 ways-follow [] zero (suc f) p = absurd p
 ways-follow [] (suc h) f p = absurd p
 ways-follow (x ∷ w) zero f p = absurd p
-ways-follow (x ∷ w) (suc h) f p = follows-onward (Fits (suc h) f) (after (suc h) f) (λ q. q) (fits-after (suc h) f) (after-fits (suc h) f) x (above (suc h) f x) (above-least (suc h) f x) w _ (ways-follow w _ _ (fits-after (suc h) f x w p))
+ways-follow (x ∷ w) (suc h) f p = follows-onward (Fits (suc h) f) (after (suc h) f) (fits-after (suc h) f) (after-fits (suc h) f) x (above (suc h) f x) (above-least (suc h) f x) w _ (ways-follow w _ _ (fits-after (suc h) f x w p))
 
 pub words-follow : (n : ℕ) (w : List ℕ) → Word n w → Follows (Word n) w (following n w)
 unfolding following
 words-follow n [] p = absurd p
-words-follow n (x ∷ w) p = follows-onward (Word n) (start n) (λ q. q) (word-start n) (start-word n) x (root-above n x) (root-least n x) w _ (ways-follow w _ _ (word-start n x w p))
+words-follow n (x ∷ w) p = follows-onward (Word n) (start n) (word-start n) (start-word n) x (root-above n x) (root-least n x) w _ (ways-follow w _ _ (word-start n x w p))
 
 -- the first word: U where that leads to an end, else T
 pub first-follows : (n : ℕ) → 1 ≤ n → Follows (Word n) [] (first n)

@@ -1,22 +1,26 @@
--- `following` goes from position to position: from the word at a position to the one at the next. The listing is sorted, holds exactly the
--- words of its size, and so what follows in dictionary order stands at the next place.
+-- `following` goes from the word at a position to the word at the next, and `next` likewise among the ways to go on. The lists are sorted
+-- and hold exactly the words in question, so that what follows in dictionary order stands at the next place.
 use mathlib.Core.Path.{_≡_, refl, sym}
+use mathlib.Core.Bool.{true, false}
 use mathlib.Core.Logic.{_≢_, _⊎_, inl, inr}
 use mathlib.Core.List.{List, [], _∷_, List·Memᴰ, List·Memᴰ·not-nil, List·Memᴰ·cases-cons}
-use Prim.Native.Nat.{ℕ, zero, suc, _≤_, _<_}
+use Prim.Native.Nat.{ℕ, zero, suc, _+_, _≤_, _<_}
 use native.Mathlib.Nat.{not-suc-le-zero, le-of-suc-le-suc}
 use native.Mathlib.Omega.{arith}
 use lib.ListN.{length, getD, List·getD-eq-default}
 use Rattle.lists.specs.Lists.{All}
 use Rattle.lists.proofs.Tests.{lt?, same?}
 use Rattle.words.specs.Order.{Before}
-use Rattle.words.specs.Shape.{Word}
+use Rattle.words.specs.Shape.{Fits, Word}
 use Rattle.words.proofs.Order.{before-irrefl, before-antisym}
-use Rattle.counting.specs.Listing.{listing, count, Sorted}
+use Rattle.counting.specs.Listing.{tails, listing, count, Sorted}
 use Rattle.counting.specs.Position.{wordAt}
+use Rattle.counting.proofs.Tails.{sound, complete, sorted}
 use Rattle.counting.proofs.Listing.{listing-sound, listing-complete, listing-sorted}
-use Rattle.succession.specs.Succession.{first, following}
-use Rattle.succession.proofs.Follows.{Follows, cons-not, words-follow, first-follows, first-not}
+use Rattle.succession.specs.Succession.{ends, ending, next, first, following}
+use Rattle.succession.proofs.Levels.{dead}
+use Rattle.succession.proofs.Endings.{ending-least}
+use Rattle.succession.proofs.Follows.{Follows, cons-not, ways-follow, words-follow, first-follows, first-not}
 
 -- ---- places of a list of words
 
@@ -83,6 +87,26 @@ next-place P ws s sound complete i v l F = go v F (lt? (suc i) (length ws))
                 let m : suc i < length ws = (let a = S .within in omega arith) in
                 absurd (F .nearest (getD ws (suc i) []) (sound (suc i) m) (sorted-at ws i (suc i) s (omega arith) m) (rw (S .is) at (sorted-at ws (suc i) (S .place) s k (S .within))))
 
+-- ---- ways to go on
+
+module _ (m h f : ℕ) where
+  -- there is a way to end exactly if `ends` says so
+  pub tails-some : h + f ≤ m → ends h f ≡ true → 0 < length (tails m h f)
+  tails-some l q = let s = stands (ending h f) (tails m h f) (complete m h f (ending h f) l (ending-least h f q .fits)) in let i = s .within in omega arith
+
+  pub tails-none : ends h f ≡ false → length (tails m h f) ≡ 0
+  tails-none q = go (tails m h f) (sound m h f)
+    where
+      go : (ws : List (List ℕ)) → All (Fits h f) ws → length ws ≡ 0
+      go [] a = refl
+      go (w ∷ ws) a = absurd (dead h f q w (a .0))
+
+  pub next-at : h + f ≤ m → (i : ℕ) → i < length (tails m h f) → next h f (getD (tails m h f) i []) ≡ getD (tails m h f) (suc i) []
+  next-at l i k = next-place (Fits h f) (tails m h f) (sorted m h f) fit (λ v a. stands v (tails m h f) (complete m h f v l a)) i _ k (ways-follow (getD (tails m h f) i []) h f (fit i k))
+    where
+      fit : (j : ℕ) → j < length (tails m h f) → Fits h f (getD (tails m h f) j [])
+      fit j k = all-at (Fits h f) (tails m h f) j (sound m h f) k
+
 -- ---- positions of a size
 
 pub word-at : (n p : ℕ) → p < count n → Word n (wordAt n (suc p))
@@ -91,6 +115,10 @@ word-at n p l = all-at (Word n) (listing n) p (listing-sound n) l
 
 pub word-stands : (n : ℕ) (w : List ℕ) → Word n w → Stands w (listing n)
 word-stands n w a = stands w (listing n) (listing-complete n w a)
+
+pub count-some : (n : ℕ) → 1 ≤ n → 1 ≤ count n
+unfolding count
+count-some n l = let s = word-stands n (first n) (first-follows n l .some (first-not n) .0) in let i = s .within in omega arith
 
 -- the first word stands at the first place
 first-at : (n : ℕ) → 1 ≤ n → first n ≡ wordAt n 1

@@ -14,7 +14,7 @@
 --   first n            the first word of size n
 --   following n w      the word that follows w among the words of size n: the first after [], and [] after the last
 --   padded w, held w   a word in the first places of 51, with zeros after it; the same with its length
--- That these do what they say is `ways-follow` and `words-follow` in the proofs.
+-- That these do what they say is `tails-some`, `tails-none`, `next-at` and `following-at` of proofs/Places.antt.
 use mathlib.Core.Bool.{Bool, true, false}
 use mathlib.Core.List.{List, [], _∷_, _++_}
 use Prim.Native.Nat.{ℕ, zero, suc, _+_, _-_}

@@ -32,11 +32,17 @@ struct Raise {
     free: u16,
 }
 
+fn at_level(height: u16, free: u16) -> Level
+    ensures { λ r. ⌜ r ≡ level height free ⌝ }
+{
+    Level { height, free }
+}
+
 // Where an item that cannot be read leads: nothing ends from here.
 fn nowhere() -> Level
     ensures { λ r. ⌜ r ≡ stuck ⌝ }
 {
-    Level { height: 0, free: 1 }
+    at_level(0, 1)
 }
 
 // The level after an item.
@@ -48,37 +54,24 @@ fn after(height: u16, free: u16, item: u16) -> Level
         return nowhere();
     }
     if item == 0 {
-        return Level {
-            height: height - 1,
-            free,
-        };
+        return at_level(height - 1, free);
     }
     if item == 1 {
         if free < 3 {
             return nowhere();
         }
-        return Level {
-            height: height + 1,
-            free: free - 3,
-        };
+        return at_level(height + 1, free - 3);
     }
     if item == 2 {
         if free == 0 {
             return nowhere();
         }
-        return Level {
-            height: height - 1,
-            free: free - 1,
-        };
+        return at_level(height - 1, free - 1);
     }
     if item - 3 < height - 1 {
-        Level {
-            height: height - 2,
-            free,
-        }
-    } else {
-        nowhere()
+        return at_level(height - 2, free);
     }
+    nowhere()
 }
 
 // The level after the first item, U or T.
@@ -89,19 +82,13 @@ fn start(n: u16, item: u16) -> Level
         if n == 0 {
             return nowhere();
         }
-        return Level {
-            height: 1,
-            free: n - 1,
-        };
+        return at_level(1, n - 1);
     }
     if item == 1 {
         if n < 3 {
             return nowhere();
         }
-        return Level {
-            height: 3,
-            free: n - 3,
-        };
+        return at_level(3, n - 3);
     }
     nowhere()
 }
@@ -119,6 +106,7 @@ fn ends(height: u16, free: u16) -> bool
     true
 }
 
+// Whether an item can be read at a level, and some items end the word after it.
 fn leads(height: u16, free: u16, item: u16) -> bool
     requires { ⌜ height + free ≤ 50 ⌝ }
     ensures { λ r. ⌜ r ≡ leads height free item ⌝ }
@@ -184,27 +172,15 @@ fn unread(height: u16, free: u16, item: u16) -> Level
     ensures { λ r. ⌜ ((h f : ℕ) → Read h f item height free → r ≡ level h f) ⌝ }
 {
     if item == 0 {
-        return Level {
-            height: height + 1,
-            free,
-        };
+        return at_level(height + 1, free);
     }
     if item == 1 {
-        return Level {
-            height: height - 1,
-            free: free + 3,
-        };
+        return at_level(height - 1, free + 3);
     }
     if item == 2 {
-        return Level {
-            height: height + 1,
-            free: free + 1,
-        };
+        return at_level(height + 1, free + 1);
     }
-    Level {
-        height: height + 2,
-        free,
-    }
+    at_level(height + 2, free)
 }
 
 // Whether the items, read from a level on, empty the stack just as they use up the labels.

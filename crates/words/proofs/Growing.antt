@@ -271,4 +271,3 @@ state-T = record { even = refl; apart = apart-down 3; within = down-has 3; fixed
     f x (inr (inl e)) = rw e
     f x (inr (inr (inl e))) = rw e
     f x (inr (inr (inr h))) = absurd h
-

@@ -54,9 +54,10 @@ slice-aggregate-position-of c =
 position-of-requires : tie.Need-position-of-requires
 position-of-requires c κs =
     let x = c .before .before .before .before .before .before .before .before .before .before .before .before .before .before .args in
-    let r = rw (c .before .before .before .relabelled2 .given .1) at (c .before .before .before .before .before .before .before .before .relabel .ensures) in
-    (rw (over-part (wordOf (x .s0 .now) (x .s1 .now) (x .root)) (replicate 51 0) _ _ (c .before .wide .ensures ∙ r .2) (r .3 .word-written)) (word-of-size (x .s0 .now) (x .s1 .now) (x .root) (r .0)),
-    within-50 (x .s0 .now) (x .s1 .now) (x .root) (r .1))
+    let r = rw (c .before .before .before .relabelled2 .given .1) at (c .before .before .before .before .before .before .before .before .relabel .ensures) in (
+      rw (over-part (wordOf (x .s0 .now) (x .s1 .now) (x .root)) (replicate 51 0) _ _ (c .before .wide .ensures ∙ r .2) (r .3 .word-written)) (word-of-size (x .s0 .now) (x .s1 .now) (x .root) (r .0)),
+      within-50 (x .s0 .now) (x .s1 .now) (x .root) (r .1),
+    )
 
 returns-2 : tie.Need-returns-2
 returns-2 c =
@@ -68,10 +69,11 @@ returns-3 : tie.Need-returns-3
 returns-3 c =
     let x = c .before .before .before .before .before .before .before .before .before .before .before .before .before .before .before .args in
     let r = rw (c .before .before .before .before .relabelled2 .given .1) at (c .before .before .before .before .before .before .before .before .before .relabel .ensures) in
-    let q = over-part (wordOf (x .s0 .now) (x .s1 .now) (x .root)) (replicate 51 0) _ _ (c .before .before .wide .ensures ∙ r .2) (r .3 .word-written) in
-    (r .0,
-    (r .0 .size .0, within-50 (x .s0 .now) (x .s1 .now) (x .root) (r .1)),
-    c .position-of .ensures ∙ ap (position (length (x .s0 .now))) q)
+    let q = over-part (wordOf (x .s0 .now) (x .s1 .now) (x .root)) (replicate 51 0) _ _ (c .before .before .wide .ensures ∙ r .2) (r .3 .word-written) in (
+      r .0,
+      (r .0 .size .0, within-50 (x .s0 .now) (x .s1 .now) (x .root) (r .1)),
+      c .position-of .ensures ∙ ap (position (length (x .s0 .now))) q,
+    )
 
 pub position-spec : {M : Type 1} → statement M
 position-spec =

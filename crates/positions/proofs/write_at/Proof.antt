@@ -24,12 +24,13 @@ slice-aggregate-write-diagram c =
 write-diagram-requires : tie.Need-write-diagram-requires
 write-diagram-requires c κs =
     let x = c .before .before .before .before .before .before .before .before .before .before .args in
-    let s = c .before .before .before .before .before .before .before .before .before .before .pre .2 in
-    (x .n,
-    rw (over-part (wordAt (x .n) (x .p)) (x .word .now) _ _ (c .before .before .before .before .before .word-at .ensures .0) (c .before .before .before .before .before .word-at .ensures .1)) (at-spelled (x .n) (x .p) (c .before .before .before .before .before .before .before .before .before .before .pre .1)),
-    c .before .before .before .before .before .before .before .before .before .before .pre .0 .1,
-    room-0 (x .n) (x .s0 .now) (x .s1 .now) (x .word .now) s,
-    room-1 (x .n) (x .s0 .now) (x .s1 .now) (x .word .now) s)
+    let s = c .before .before .before .before .before .before .before .before .before .before .pre .2 in (
+      x .n,
+      rw (over-part (wordAt (x .n) (x .p)) (x .word .now) _ _ (c .before .before .before .before .before .word-at .ensures .0) (c .before .before .before .before .before .word-at .ensures .1)) (at-spelled (x .n) (x .p) (c .before .before .before .before .before .before .before .before .before .before .pre .1)),
+      c .before .before .before .before .before .before .before .before .before .before .pre .0 .1,
+      room-0 (x .n) (x .s0 .now) (x .s1 .now) (x .word .now) s,
+      room-1 (x .n) (x .s0 .now) (x .s1 .now) (x .word .now) s,
+    )
 
 cast-result : tie.Need-cast-result
 cast-result c = omega (arith, c .before .before .before .before .before .before .before .before .before .before .word-at .ensures .0, at-length (c .before .before .before .before .before .before .before .before .before .before .before .before .before .before .before .args .n) (c .before .before .before .before .before .before .before .before .before .before .before .before .before .before .before .args .p) (c .before .before .before .before .before .before .before .before .before .before .before .before .before .before .before .pre .1), c .before .before .before .before .before .before .before .before .before .before .before .before .before .before .before .pre .0)

@@ -59,8 +59,7 @@ staged-requires c κs = sized (c .before .before .before .before .before .before
 returns-3 : tie.Need-returns-3
 returns-3 c =
     let n = long (c .before .before .before .before .before .before .before .before .before .before .before .before) in
-    let l = sized (c .before .before .before .before .before .before .before .before .before .before) in
-    (
+    let l = sized (c .before .before .before .before .before .before .before .before .before .before) in (
       λ e. sound-yes _ n l (omega arith) (c .before .before .before .before .zeros .ensures .0 (c .before .before .before .if3 .taken)) (c .staged .ensures .0 e),
       λ e S. c .staged .ensures .1 e (sound-staged _ n S),
     )

@@ -25,8 +25,7 @@ returns-2 c =
 
 returns-3 : tie.Need-returns-3
 returns-3 c =
-    let a = c .before .before .before .args in
-    (
+    let a = c .before .before .before .args in (
       λ e. staged-none (a .stage) (a .n) (a .word .now) (c .before .if1 .left) (c .if2 .left) (eqb-true (length (a .word .now)) 0 e),
       λ e s. eqb-false (length (a .word .now)) 0 e (staged-empty (a .stage) (a .n) (a .word .now) (c .before .if1 .left) s),
     )

@@ -63,8 +63,7 @@ empty-requires c κs = search needs
 returns-4 : tie.Need-returns-4
 returns-4 c =
     let d = c .before .before .before in
-    let a = d .before .before .before .before .before .before .before .before .before .before .args in
-    (
+    let a = d .before .before .before .before .before .before .before .before .before .before .args in (
       step-end (a .run) (a .s0 .now) (a .s1 .now) (a .word .now) (S d) (d .before .before .before .if2 .left) (not-short (d .before)) _ (c .empty .ensures) (sym (long d) ∙ c .before .if4 .taken),
       untouched (a .s0 .now) (a .s1 .now) (a .word .now),
     )

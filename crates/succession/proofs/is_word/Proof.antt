@@ -33,8 +33,7 @@ fits-requires c κs =
 returns-2 : tie.Need-returns-2
 returns-2 c =
     let a = c .before .before .before .before .before .before .args in
-    let l = c .before .before .start .result in
-    (
+    let l = c .before .before .start .result in (
       λ e. rest-to-word (a .n) (a .word .now) l (c .before .before .before .before .if1 .left) (c .before .before .start .ensures) (c .fits2 .ensures .0 e),
       λ e f. c .fits2 .ensures .1 e (word-to-rest (a .n) (a .word .now) l (c .before .before .start .ensures) f),
     )

@@ -50,8 +50,7 @@ unread-requires c κs =
 
 above-requires : tie.Need-above-requires Inv-loop μ-loop
 above-requires c κs =
-    let p = c .before .before .before .before .before .pre in
-    (
+    let p = c .before .before .before .before .before .pre in (
       back-small (p .0) (p .1) _ (p .3) _ _ _ (inside (c .before .before)) (back (c .before .before) (p .0) (p .1) (p .2) (p .3)) _ (c .unread .ensures),
       back-item (p .0) (p .1) _ (p .3) _ _ _ (inside (c .before .before)) (back (c .before .before) (p .0) (p .1) (p .2) (p .3)),
     )
@@ -75,8 +74,7 @@ loop-less c = search needs
 
 loop-again : tie.Need-loop-again Inv-loop μ-loop
 loop-again c =
-    let p = c .before .before .before .before .before .before .before .pre in
-    (
+    let p = c .before .before .before .before .before .before .before .pre in (
       search needs,
       back-small (p .0) (p .1) _ (p .3) _ _ _ (inside (c .before .before .before .before)) (back (c .before .before .before .before) (p .0) (p .1) (p .2) (p .3)) _ (c .before .before .unread .ensures),
       λ H F a s. back-more H F _ s _ _ _ (inside (c .before .before .before .before)) (back (c .before .before .before .before) H F a s) _ (c .before .before .unread .ensures) _ (c .before .above .ensures) (omega arith),

@@ -11,11 +11,14 @@ nowhere-requires c κs = search needs
 returns : tie.Need-returns
 returns c = search needs
 
-sub-t5 : tie.Need-sub-t5
-sub-t5 c = search needs
+sub-at-level : tie.Need-sub-at-level
+sub-at-level c = search needs
+
+at-level-requires : tie.Need-at-level-requires
+at-level-requires c κs = search needs
 
 returns-2 : tie.Need-returns-2
-returns-2 c = start-U _ _ (c .before .if1 .taken) (c .if2 .left)
+returns-2 c = c .at-level .ensures ∙ start-U _ _ (c .before .before .if1 .taken) (c .before .if2 .left)
 
 nowhere-requires-2 : tie.Need-nowhere-requires-2
 nowhere-requires-2 c κs = search needs
@@ -23,8 +26,11 @@ nowhere-requires-2 c κs = search needs
 returns-3 : tie.Need-returns-3
 returns-3 c = c .nowhere2 .ensures ∙ start-T-none _ _ (c .before .before .if3 .taken) (c .before .if4 .taken)
 
+at-level-requires-2 : tie.Need-at-level-requires-2
+at-level-requires-2 c κs = search needs
+
 returns-4 : tie.Need-returns-4
-returns-4 c = start-T _ _ (c .before .if3 .taken) (c .if4 .left)
+returns-4 c = c .at-level2 .ensures ∙ start-T _ _ (c .before .before .if3 .taken) (c .before .if4 .left)
 
 nowhere-requires-3 : tie.Need-nowhere-requires-3
 nowhere-requires-3 c κs = search needs
@@ -38,10 +44,12 @@ start-spec =
     (tie.spec
     nowhere-requires
     returns
-    sub-t5
+    sub-at-level
+    at-level-requires
     returns-2
     nowhere-requires-2
     returns-3
+    at-level-requires-2
     returns-4
     nowhere-requires-3
     returns-5)

@@ -50,6 +50,15 @@ third c o k r u = rw (← second (c .before .before) o k r u) (c .follow3 .ensur
 pending : (c : tie.Then2) (o : List ℕ) (k : ℕ) (r : List ℕ) → Found (c .before .before .before .before .before .before .before .before .before .before) o k r → Has (c .before .before .before .before .follow .result) r
 pending c o k r u = rw (partner (c .before .before .before .before) o k r u) (partner-pending _ _ _ _ _ _ _ o k r u (apart (c .before .before .before) o k r u) (labelled c o k r u))
 
+small : (c : tie.After-follow3) (o : List ℕ) (k : ℕ) (r : List ℕ) → Found (c .before .before .before .before .before .before .before .before .before .before .before .before .before) o k r → Edge 1024 (c .before .before .before .before .before .before .before .follow .result) × Edge 1024 (c .before .before .follow2 .result) × Edge 1024 (c .follow3 .result)
+small c o k r u =
+    let e = partner-edge _ _ _ _ _ _ _ o k r u in
+    rw (partner (c .before .before .before .before .before .before .before) o k r u, second (c .before .before) o k r u, third c o k r u) (
+      accepts-small _ _ 1 _ (u .accepted) e,
+      accepts-small _ _ 1 _ (u .accepted) (u .accepted .blacks _ e),
+      accepts-small _ _ 1 _ (u .accepted) (u .accepted .blacks _ (u .accepted .blacks _ e)),
+    )
+
 new : (c : tie.After-follow3) (o : List ℕ) (k : ℕ) (r : List ℕ) → Found (c .before .before .before .before .before .before .before .before .before .before .before .before .before) o k r → (¬ Has (c .before .before .follow2 .result) r) × (¬ Has (c .follow3 .result) (c .before .before .follow2 .result ∷ r))
 new c o k r u = rw (second (c .before .before) o k r u, third c o k r u) (fork-new _ _ _ _ _ _ _ o k r u (apart (c .before .before .before .before .before .before) o k r u) (unlabelled (c .before .before .before) o k r u) (moved (c .before) o k r u))
 
@@ -106,14 +115,8 @@ follow-requires-3 c κs =
 fork-requires : tie.Need-fork-requires
 fork-requires c κs =
     let (o, k, r, u) = c .before .before .before .before .before .before .before .before .before .before .before .before .before .before .before .before .before .pre in
-    let e = partner-edge _ _ _ _ _ _ _ o k r u in
-    let small : (x : ℕ) → Edge (length (now (c .before .before .before .before .before .before .before .before .before .before .before .before .before .before .before .before .before .args .s0))) x → Edge 1024 x = λ x i. accepts-small _ _ 1 x (u .accepted) i in (
-      (
-        fork-room _ _ _ _ _ _ _ o k r u (apart (c .before .before .before .before .before .before .before .before .before .before) o k r u) (unlabelled (c .before .before .before .before .before .before .before) o k r u) (moved (c .before .before .before .before .before) o k r u),
-        rw (partner (c .before .before .before .before .before .before .before .before .before .before .before) o k r u) (small _ e),
-        rw (second (c .before .before .before .before .before .before) o k r u) (small _ (u .accepted .blacks _ e)),
-        rw (third (c .before .before .before .before) o k r u) (small _ (u .accepted .blacks _ (u .accepted .blacks _ e))),
-      ),
+    let (p, q, s) = small (c .before .before .before .before) o k r u in (
+      (fork-room _ _ _ _ _ _ _ o k r u (apart (c .before .before .before .before .before .before .before .before .before .before) o k r u) (unlabelled (c .before .before .before .before .before .before .before) o k r u) (moved (c .before .before .before .before .before) o k r u), p, q, s),
       (r, popped (c .before .before .before .before .before .before .before .before .before .before .before .before) o k r u .1, new (c .before .before .before .before) o k r u .0, new (c .before .before .before .before) o k r u .1),
     )
 

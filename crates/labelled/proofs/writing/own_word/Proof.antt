@@ -19,9 +19,13 @@ same-length : tie.Need-same-length
 same-length c = search needs
 
 returns : tie.Need-returns
-returns c =
-    let w = c .before .before .before .before .before .write-word .ensures in
-    (w .few, (rw (w .word-is) (take-at _ _ _ (sym (w .length-is))), record { unlabelled = c .take-back .ensures; empty = w .none-pending }))
+returns c = (
+  c .before .before .before .before .before .write-word .ensures .few,
+  (
+    rw (c .before .before .before .before .before .write-word .ensures .word-is) (take-at _ _ _ (sym (c .before .before .before .before .before .write-word .ensures .length-is))),
+    record { unlabelled = c .take-back .ensures; empty = c .before .before .before .before .before .write-word .ensures .none-pending },
+  ),
+)
 
 pub own-word-spec : {M : Type 1} → statement M
 own-word-spec =

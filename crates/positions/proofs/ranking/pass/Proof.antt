@@ -69,7 +69,6 @@ returns-4 c = λ w a.
     let q = jump-item _ _ (c .before .before .match .rest .0 .0 .1) (c .before .before .match .rest .0 .1) (c .before .before .match .rest .1) (c .before .wide .ensures) in
     from-J _ _ _ _ _ w i q _ _ _ (c .jumped .ensures w (item-J _ _ _ _ _ w i q a))
 
-
 pub pass-spec : {M : Type 1} → statement M
 pass-spec =
     tie.close
