@@ -4,3 +4,6 @@ pub mod Accepted
 pub mod Ledger
 pub mod CallLaws
 pub mod Tickets
+pub mod Entries
+pub mod Counts
+pub mod Lent
