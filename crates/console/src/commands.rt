@@ -1,6 +1,7 @@
 // Which command a line is. Each function tries the names of its group, and hands what it does not know on to the next.
 use crate::answers::error;
 use crate::books;
+use crate::fields;
 use crate::given;
 use crate::listing;
 use crate::runs;
@@ -60,21 +61,61 @@ fn on_diagrams(name: &[u8], line: &[u8], words: Words, out: &mut [u8], at: usize
     on_words(name, line, words, out, at)
 }
 
-fn on_book(name: &[u8], line: &[u8], words: Words, state: State, out: &mut [u8], at: usize) -> Done {
+// The first of the groups that alter something.
+fn on_fields(
+    name: &[u8],
+    line: &[u8],
+    words: Words,
+    state: State,
+    out: &mut [u8],
+    at: usize,
+) -> Done {
+    let book = state.book;
     if is(name, b"set") {
-        return books::set(line, words, state, out, at);
+        return fields::set(line, words, state, out, at);
     }
     if is(name, b"book") {
-        let book = state.book;
         return Done {
             state,
-            at: books::show(words, book, out, at),
+            at: fields::show(words, book, out, at),
+        };
+    }
+    if is(name, b"report") {
+        return Done {
+            state,
+            at: books::report(words, book, out, at),
         };
     }
     Done {
         state,
         at: on_diagrams(name, line, words, out, at),
     }
+}
+
+fn on_book(
+    name: &[u8],
+    line: &[u8],
+    words: Words,
+    state: State,
+    out: &mut [u8],
+    at: usize,
+) -> Done {
+    if is(name, b"open") {
+        return books::open(line, words, state, out, at);
+    }
+    if is(name, b"claim") {
+        return books::claim(line, words, state, out, at);
+    }
+    if is(name, b"take") {
+        return books::take(line, words, state, out, at);
+    }
+    if is(name, b"commit") {
+        return books::commit(line, words, state, out, at);
+    }
+    if is(name, b"release") {
+        return books::release(line, words, state, out, at);
+    }
+    on_fields(name, line, words, state, out, at)
 }
 
 pub fn command(line: &[u8], state: State, out: &mut [u8], at: usize) -> Done {

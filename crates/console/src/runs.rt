@@ -7,6 +7,7 @@ use crate::arguments::MAX_ENTRIES;
 use crate::arguments::three_rooms;
 use crate::state::Done;
 use crate::state::State;
+use crate::state::with_run;
 use lines::Words;
 use lines::number;
 use lines::put_text;
@@ -29,10 +30,8 @@ pub fn begin(line: &[u8], words: Words, state: State, out: &mut [u8], at: usize)
     match answer {
         Beginning::Begun => {
             let run = begun.run;
-            let mut next = state;
-            next.run = run;
             Done {
-                state: next,
+                state: with_run(state, run),
                 at: ok(out, at),
             }
         }
@@ -100,10 +99,8 @@ pub fn step(line: &[u8], words: Words, state: State, out: &mut [u8], at: usize) 
         at,
     );
     let run = stepped.run;
-    let mut next = state;
-    next.run = run;
     Done {
-        state: next,
+        state: with_run(state, run),
         at: stepped.at,
     }
 }

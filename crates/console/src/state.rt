@@ -40,3 +40,15 @@ pub fn start() -> State {
         book,
     }
 }
+
+pub fn with_run(state: State, run: Run) -> State {
+    let mut next = state;
+    next.run = run;
+    next
+}
+
+pub fn with_book(state: State, book: Book) -> State {
+    let mut next = state;
+    next.book = book;
+    next
+}
