@@ -1,5 +1,7 @@
 // Which command a line is. Each function tries the names of its group, and hands what it does not know on to the next.
 use crate::answers::error;
+use crate::books;
+use crate::fields;
 use crate::given;
 use crate::listing;
 use crate::runs;
@@ -59,7 +61,63 @@ fn on_diagrams(name: &[u8], line: &[u8], words: Words, out: &mut [u8], at: usize
     on_words(name, line, words, out, at)
 }
 
-// The commands that alter something come first; the others leave the state as it was.
+// The first of the groups that alter something.
+fn on_fields(
+    name: &[u8],
+    line: &[u8],
+    words: Words,
+    state: State,
+    out: &mut [u8],
+    at: usize,
+) -> Done {
+    let book = state.book;
+    if is(name, b"set") {
+        return fields::set(line, words, state, out, at);
+    }
+    if is(name, b"book") {
+        return Done {
+            state,
+            at: fields::show(words, book, out, at),
+        };
+    }
+    if is(name, b"report") {
+        return Done {
+            state,
+            at: books::report(words, book, out, at),
+        };
+    }
+    Done {
+        state,
+        at: on_diagrams(name, line, words, out, at),
+    }
+}
+
+fn on_book(
+    name: &[u8],
+    line: &[u8],
+    words: Words,
+    state: State,
+    out: &mut [u8],
+    at: usize,
+) -> Done {
+    if is(name, b"open") {
+        return books::open(line, words, state, out, at);
+    }
+    if is(name, b"claim") {
+        return books::claim(line, words, state, out, at);
+    }
+    if is(name, b"take") {
+        return books::take(line, words, state, out, at);
+    }
+    if is(name, b"commit") {
+        return books::commit(line, words, state, out, at);
+    }
+    if is(name, b"release") {
+        return books::release(line, words, state, out, at);
+    }
+    on_fields(name, line, words, state, out, at)
+}
+
 pub fn command(line: &[u8], state: State, out: &mut [u8], at: usize) -> Done {
     let words = split(line);
     let name = word(line, words, 0);
@@ -69,8 +127,5 @@ pub fn command(line: &[u8], state: State, out: &mut [u8], at: usize) -> Done {
     if is(name, b"step") {
         return runs::step(line, words, state, out, at);
     }
-    Done {
-        state,
-        at: on_diagrams(name, line, words, out, at),
-    }
+    on_book(name, line, words, state, out, at)
 }

@@ -18,9 +18,20 @@
 //   walk N [ROOM]                                  how many numbers, and the numbers
 //   begin N                                        ok
 //   step [R0 R1 RW]                                S0 S1 WORD or end; a step before any accepted begin is refused 34
+//   open N K                                       ok
+//   claim TICK SHARE LENGTH                        ticket T
+//   take TICK TICKET [R0 R1 RW]                    share J position P S0 S1 WORD
+//   commit TICK TICKET P                           ok
+//   release TICK TICKET                            ok
+//   report                                         N complete or N open
+//   book                                           SIZE K LATEST ISSUED NEXT TICKET EXPIRY, three lists of 32; all zeros before any open
+//   set size V, shares V, latest V, issued V       ok; writes a field of the book
+//   set next J V, ticket J V, expiry J V           ok; writes share J's, 1 to 32
 mod answers;
 mod arguments;
+mod books;
 mod commands;
+mod fields;
 mod given;
 mod listing;
 mod runs;

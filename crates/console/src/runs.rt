@@ -7,6 +7,7 @@ use crate::arguments::MAX_ENTRIES;
 use crate::arguments::three_rooms;
 use crate::state::Done;
 use crate::state::State;
+use crate::state::with_run;
 use lines::Words;
 use lines::number;
 use lines::put_text;
@@ -29,9 +30,8 @@ pub fn begin(line: &[u8], words: Words, state: State, out: &mut [u8], at: usize)
     match answer {
         Beginning::Begun => {
             let run = begun.run;
-            let skips = state.skips;
             Done {
-                state: State { skips, run },
+                state: with_run(state, run),
                 at: ok(out, at),
             }
         }
@@ -99,9 +99,8 @@ pub fn step(line: &[u8], words: Words, state: State, out: &mut [u8], at: usize) 
         at,
     );
     let run = stepped.run;
-    let skips = state.skips;
     Done {
-        state: State { skips, run },
+        state: with_run(state, run),
         at: stepped.at,
     }
 }

@@ -1,11 +1,14 @@
 // What lasts from line to line.
 use running::Run;
+use sharing::Book;
 
 pub struct State {
     // the line at hand was too long, and is passed over up to its newline
     pub skips: bool,
     // as the last accepted begin or step left it
     pub run: Run,
+    // as the last accepted operation on it, or set, left it
+    pub book: Book,
 }
 
 // After a line: what it left, and the place after its answer.
@@ -14,7 +17,7 @@ pub struct Done {
     pub at: usize,
 }
 
-// Before the first line. The run is of no size, so that a step refuses it.
+// Before the first line. The run is of no size, so that a step refuses it, and the book is all zeros.
 pub fn start() -> State {
     let run = Run {
         size: 0,
@@ -22,5 +25,30 @@ pub fn start() -> State {
         length: 0,
         items: [0; 51],
     };
-    State { skips: false, run }
+    let book = Book {
+        size: 0,
+        shares: 0,
+        latest: 0,
+        issued: 0,
+        next: [0; 32],
+        ticket: [0; 32],
+        expiry: [0; 32],
+    };
+    State {
+        skips: false,
+        run,
+        book,
+    }
+}
+
+pub fn with_run(state: State, run: Run) -> State {
+    let mut next = state;
+    next.run = run;
+    next
+}
+
+pub fn with_book(state: State, book: Book) -> State {
+    let mut next = state;
+    next.book = book;
+    next
 }

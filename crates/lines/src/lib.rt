@@ -18,7 +18,6 @@ pub use parsing::word;
 pub use printing::put_byte;
 pub use printing::put_list;
 pub use printing::put_number;
-pub use printing::put_numbers;
 pub use printing::put_signed;
 pub use printing::put_text;
 

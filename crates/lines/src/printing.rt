@@ -65,18 +65,3 @@ pub fn put_list(out: &mut [u8], at: usize, list: &[u16]) -> usize {
     }
     next
 }
-
-// The same of a list of larger numbers.
-pub fn put_numbers(out: &mut [u8], at: usize, list: &[u64]) -> usize {
-    if list.len() == 0 {
-        return put_byte(out, at, b'-');
-    }
-    let mut next = at;
-    let mut i: usize = 0;
-    while i < list.len() {
-        next = put_comma(out, next, i);
-        next = put_number(out, next, list[i]);
-        i += 1;
-    }
-    next
-}
