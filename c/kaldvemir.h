@@ -1,0 +1,150 @@
+/* Kaldvemir's census module for callers in C: rooted trivalent diagrams, their words, positions and runs, and the share book.
+ *
+ * Every function is proved to do what its comment says (crates/kaldvemir: the contracts of these functions pass on the promises of the
+ * library). "01" is the scope document; refusals have its numbers.
+ *
+ * A function returns 0 where the call is accepted and the number of the refusal otherwise, unless its comment says otherwise. What it gives
+ * it writes through the pointers that stand last. A refused call writes nothing at all (in compare: the side alone).
+ *
+ * A list is a pointer and the number of its entries, of any length. Pointers are not null, also those of empty lists, and are aligned for
+ * their type; no list, book, run or number that is written overlaps any other that is passed. Nothing is kept after the return, nothing is
+ * allocated, and there is no state but what the caller lends: distinct books and runs may be used from distinct threads.
+ *
+ * A diagram is lent as s0, s1 and root: entry i - 1 of s0 (of s1) is the next edge round the black (white) vertex of edge i. A diagram that
+ * is written has root 1 and fills the first places of its lists; the rest is untouched.
+ */
+#ifndef KALDVEMIR_H
+#define KALDVEMIR_H
+
+#include <stdbool.h>
+#include <stddef.h>
+#include <stdint.h>
+
+#ifdef __cplusplus
+extern "C" {
+#endif
+
+/* The largest size of a given diagram; of a counted, listed or shared one; the most shares of a book. */
+#define KALDVEMIR_MAX_SIZE 1024
+#define KALDVEMIR_MAX_LISTED 50
+#define KALDVEMIR_MAX_SHARES 32
+
+/* A run: its size, whether it is fresh (0), at a diagram (1) or finished (2), and the word it is at; unused items are 0.
+ * 54 numbers of 16 bits, one after another. */
+typedef struct {
+    uint16_t size;
+    uint16_t stage;
+    uint16_t length;
+    uint16_t items[51];
+} kaldvemir_run;
+
+/* A share book: entry j - 1 of each list is share j's. 100 numbers of 64 bits, one after another. */
+typedef struct {
+    uint64_t size;
+    uint64_t shares;
+    uint64_t latest;     /* the latest tick of an accepted call */
+    uint64_t issued;     /* how many tickets have been issued */
+    uint64_t next[32];   /* each share's next position */
+    uint64_t ticket[32]; /* the ticket that stands at each share, 0 where none does */
+    uint64_t expiry[32]; /* the tick at which that ticket lapses, 0 without a ticket */
+} kaldvemir_book;
+
+/* ---- given diagrams, 1 to 1,024 edges */
+
+/* Check: 1 length of s0 is 0 or above 1,024; 2 lengths differ; 3 root outside 1..n; 4 an s0 entry outside 1..n; 5 the same in s1; 6 s0
+ * thrice moves an edge; 7 s1 twice does; 8 not connected. */
+uint16_t kaldvemir_check(const uint16_t *s0, size_t s0_len, const uint16_t *s1, size_t s1_len, uint64_t root);
+
+/* The all-reached test: whether every mark is 1. Refuses nothing. */
+bool kaldvemir_all_reached(const uint8_t *marks, size_t marks_len);
+
+/* Relabel: writes the characteristic labelling and the word, n + 1 items at most, and the word's length. 1 to 8; 9 an output list is short
+ * (n, n, and n + 1 for the word). */
+uint16_t kaldvemir_relabel(const uint16_t *s0, size_t s0_len, const uint16_t *s1, size_t s1_len, uint64_t root,
+                           uint16_t *t0, size_t t0_len, uint16_t *t1, size_t t1_len, uint16_t *word, size_t word_len, uint64_t *length);
+
+/* Compare with roots: *same is 1 where some isomorphism carries root to root, otherwise 0. 1 to 8 for the first diagram, then for the
+ * second; then *side is 1 or 2, and *same is untouched. Where the call is accepted *side is untouched. */
+uint16_t kaldvemir_compare_rooted(const uint16_t *s0, size_t s0_len, const uint16_t *s1, size_t s1_len, uint64_t s_root,
+                                  const uint16_t *t0, size_t t0_len, const uint16_t *t1, size_t t1_len, uint64_t t_root,
+                                  uint64_t *same, uint64_t *side);
+
+/* Compare without roots: the same, of isomorphisms that need not carry root to root. */
+uint16_t kaldvemir_compare_unrooted(const uint16_t *s0, size_t s0_len, const uint16_t *s1, size_t s1_len, uint64_t s_root,
+                                    const uint16_t *t0, size_t t0_len, const uint16_t *t1, size_t t1_len, uint64_t t_root,
+                                    uint64_t *same, uint64_t *side);
+
+/* Symmetries: how many rootings have the diagram's own word. 1 to 8. */
+uint16_t kaldvemir_symmetries(const uint16_t *s0, size_t s0_len, const uint16_t *s1, size_t s1_len, uint64_t root, uint64_t *count);
+
+/* Kept: *kept is 1 where the diagram's word is the least among those of its rootings, otherwise 0. 1 to 8. */
+uint16_t kaldvemir_kept(const uint16_t *s0, size_t s0_len, const uint16_t *s1, size_t s1_len, uint64_t root, uint64_t *kept);
+
+/* Invariants: edges fixed by s1 and by s0, cycles of i to s0(s1(i)), 12 + n - 3 e2 - 4 e3 - 6 c, and the longest cycle. 1 to 8. */
+uint16_t kaldvemir_invariants(const uint16_t *s0, size_t s0_len, const uint16_t *s1, size_t s1_len, uint64_t root,
+                              uint16_t *e2, uint16_t *e3, uint16_t *c, int32_t *t, uint16_t *level);
+
+/* ---- words: U = 0 or T = 1, then W = 0, F = 1, B = 2, Jd = 3 + d */
+
+/* Read word: writes the diagram that the word spells, and its size. 21 empty or above 1,025 items; item by item: 26 an item after the stack
+ * has emptied, 22 first item not 0 or 1, 23 Jd with d not below the stack height after the pop, 24 label above 1,024; at the end 25 edges
+ * pending; 9. */
+uint16_t kaldvemir_read_word(const uint16_t *word, size_t word_len, uint16_t *s0, size_t s0_len, uint16_t *s1, size_t s1_len, uint64_t *size);
+
+/* The smaller of two words in dictionary order: returns 1 or 2, on equality 1. Refuses nothing. */
+uint16_t kaldvemir_lesser(const uint16_t *first, size_t first_len, const uint16_t *second, size_t second_len);
+
+/* A word in letters, as the census prints it, and their number. 22 the first item is not 0 or 1; 9. */
+uint16_t kaldvemir_letters(const uint16_t *word, size_t word_len, uint8_t *letters, size_t letters_len, uint64_t *length);
+
+/* ---- listed diagrams, 1 to 50 edges */
+
+/* Count: how many words spell a diagram of that size. 31 size outside 1..50. */
+uint16_t kaldvemir_count(uint64_t size, uint64_t *count);
+
+/* Diagram at a position, with its word and the word's length. 31; 32 position 0 or above the count; 9. */
+uint16_t kaldvemir_diagram_at(uint64_t size, uint64_t position, uint16_t *s0, size_t s0_len, uint16_t *s1, size_t s1_len,
+                              uint16_t *word, size_t word_len, uint64_t *length);
+
+/* Position of a diagram. 1 to 8; 31. */
+uint16_t kaldvemir_position(const uint16_t *s0, size_t s0_len, const uint16_t *s1, size_t s1_len, uint64_t root, uint64_t *position);
+
+/* Plain walk: all words of a size, one after another, and how many numbers that is. 35 size outside 1..9; 9 fewer than 1,024 places. */
+uint16_t kaldvemir_plain_walk(uint64_t size, uint16_t *words, size_t words_len, uint64_t *count);
+
+/* Run, beginning: 31. */
+uint16_t kaldvemir_begin(uint64_t size, kaldvemir_run *run);
+
+/* Run, step: writes the next diagram of the run's size, its word and the word's length. After the last diagram, and whenever the run is
+ * finished, it writes a length of 0 and nothing else: "end". 34 the run is neither fresh, nor at a diagram, nor finished; 9. */
+uint16_t kaldvemir_step(kaldvemir_run *run, uint16_t *s0, size_t s0_len, uint16_t *s1, size_t s1_len, uint16_t *word, size_t word_len,
+                        uint64_t *length);
+
+/* ---- the share book. All but open refuse 50, a book that is not sound; all but open and report then 52, a tick below the latest or from 2^48
+ * on. A refused call leaves the book as it was; an accepted one keeps its tick as the latest. */
+
+/* Open: 31; 51 shares outside 1..32. */
+uint16_t kaldvemir_open(kaldvemir_book *book, uint64_t size, uint64_t shares);
+
+/* Claim: 53 share outside 1..k; 54 length outside 1..65,535; 55 finished; 56 held and not lapsed; 57 65,535 tickets issued. */
+uint16_t kaldvemir_claim(kaldvemir_book *book, uint64_t tick, uint64_t share, uint64_t length, uint64_t *ticket);
+
+/* Take: the share where the ticket stands, its next position, the diagram there with its word, and the word's length. 58 the ticket stands
+ * at no share; 59 it has lapsed; 9. */
+uint16_t kaldvemir_take(kaldvemir_book *book, uint64_t tick, uint64_t ticket, uint16_t *s0, size_t s0_len, uint16_t *s1, size_t s1_len,
+                        uint16_t *word, size_t word_len, uint64_t *share, uint64_t *position, uint64_t *length);
+
+/* Commit: 58; 59; 60 not that share's next position. */
+uint16_t kaldvemir_commit(kaldvemir_book *book, uint64_t tick, uint64_t ticket, uint64_t position);
+
+/* Release: 58; 59. */
+uint16_t kaldvemir_release(kaldvemir_book *book, uint64_t tick, uint64_t ticket);
+
+/* Report: the number of committed positions, and 1 where every share is finished, otherwise 0. */
+uint16_t kaldvemir_report(const kaldvemir_book *book, uint64_t *committed, uint64_t *complete);
+
+#ifdef __cplusplus
+}
+#endif
+
+#endif
