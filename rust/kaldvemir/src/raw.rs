@@ -178,3 +178,6 @@ pub(crate) fn release(book: &mut Book, tick: u64, ticket: u64) -> u16 {
 pub(crate) fn report(book: &Book, committed: &mut u64, complete: &mut u64) -> u16 {
     unsafe { kaldvemir_report(book, committed, complete) }
 }
+
+#[cfg(test)]
+mod tests;
