@@ -240,10 +240,10 @@ fn damage(random: &mut Random, book: &mut Book) {
             1 => book.shares = random.near(&[0, 32, book.shares]),
             2 => book.latest = random.near(&[1 << 48, book.latest, book.expiry[j].saturating_sub(65_535)]),
             3 => book.issued = random.near(&[65_535, book.issued, book.ticket[j]]),
-            4 | 5 => book.next[j] = random.near(&[book.next[j], book.next[other], (book.next[j] + 1) / 2]),
+            4 | 5 => book.next[j] = random.near(&[book.next[j], book.next[other], book.next[j].div_ceil(2)]),
             6 => book.ticket[j] = random.near(&[0, book.issued, book.ticket[j]]),
             7 => book.ticket[j] = book.ticket[other],
-            8 => book.expiry[j] = random.near(&[0, book.latest + 65_535, book.expiry[j]]),
+            8 => book.expiry[j] = random.near(&[0, book.latest.wrapping_add(65_535), book.expiry[j]]),
             _ => book.expiry[j] = book.expiry[other],
         }
     }

@@ -201,7 +201,7 @@ impl Sheets {
 
     /// By how many sheets an edge that the base fixes may shift, so that so many times give it back.
     fn fixed(&self, random: &mut Random, times: usize) -> usize {
-        if self.fold % times == 0 { self.fold / times * random.below(times) } else { 0 }
+        if self.fold.is_multiple_of(times) { self.fold / times * random.below(times) } else { 0 }
     }
 }
 

@@ -37,12 +37,14 @@ fn a_ticket_holds_until_its_expiry() {
     assert_eq!((book.latest, book.next[1], book.ticket[1], book.expiry[1]), (17, 5, 0, 0));
 }
 
+type Edit = fn(&mut Book);
+
 #[test]
 fn each_condition_of_50() {
     let mut sound = opened(4, 3);
     sound.claim(100, 1, 65_535).unwrap();
     sound.claim(100, 2, 1).unwrap();
-    let edits: [(&str, fn(&mut Book)); 16] = [
+    let edits: [(&str, Edit); 16] = [
         ("size 0", |book| book.size = 0),
         ("size 51", |book| book.size = 51),
         ("no shares", |book| book.shares = 0),
