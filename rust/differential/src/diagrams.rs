@@ -16,7 +16,7 @@ pub struct Mix {
 }
 
 pub const EVERY: Mix = Mix { middling: 100, large: 40 };
-pub const FEW_LARGE: Mix = Mix { middling: 50, large: 4 };
+pub const FEW_LARGE: Mix = Mix { middling: 80, large: 12 };
 
 /// A size from 1 to 1,024, mostly small; its upper edge comes often among the large ones.
 pub fn size(random: &mut Random, mix: Mix) -> usize {
@@ -224,12 +224,10 @@ fn scattered(random: &mut Random, n: usize) -> Diagram {
 
 /// Two diagrams side by side, which are not connected with one another.
 fn beside(random: &mut Random, n: usize) -> Diagram {
-    let (mut first, second) = (grown(random, n.div_ceil(2)), grown(random, n / 2 + 1));
+    let (mut first, second) = (grown(random, n.div_ceil(2)), grown(random, (n / 2).max(1)));
     let shift = first.s0.len() as u16;
     first.s0.extend(second.s0.iter().map(|entry| entry + shift));
     first.s1.extend(second.s1.iter().map(|entry| entry + shift));
-    first.s0.truncate(1024);
-    first.s1.truncate(1024);
     first
 }
 

@@ -3,7 +3,7 @@
 //!
 //!   differential [--full] [--seed N] [--inputs N]
 //!
-//! A short run compares 20,000 inputs of every operation at least, a full one 1,000,000. The same seed, 1 where none is given, gives the same
+//! A short run compares 50,000 inputs of every operation at least, a full one 1,000,000. The same seed, 1 where none is given, gives the same
 //! inputs on any number of cores.
 #![forbid(unsafe_code)]
 
@@ -25,7 +25,7 @@ use std::time::Instant;
 use std::{env, thread};
 use tally::{Compared, Tally};
 
-const SHORT: u64 = 20_000;
+const SHORT: u64 = 50_000;
 const FULL: u64 = 1_000_000;
 /// How many inputs of its operations a piece of work compares.
 const PIECE: u64 = 5_000;
