@@ -8,6 +8,7 @@ ghost use mathlib.Core.Path.{_≡_};
 ghost use mathlib.Core.Logic.{_↔_};
 ghost use mathlib.Core.Bool.{true};
 ghost use mathlib.Core.List.{[], _∷_};
+ghost use Prim.Native.Nat.{_≤_};
 ghost use lib.ListN.{length, take};
 ghost use Rattle.lists.specs.Lists.{at};
 ghost use Rattle.lists.specs.Ranges.{Edge};
@@ -189,19 +190,29 @@ fn twice(s1: &[u16]) -> bool
     true
 }
 
-// Whether every edge is reached from edge 1. The list holds the edges reached so far, each once; its first ones, done of them, are
-// visited, and the others are still to visit.
+// Whether every edge is reached from edge 1.
 fn connected(s0: &[u16], s1: &[u16]) -> bool
     requires { ⌜ Mapped (now s0) (now s1) ⌝ }
     ensures { λ r. ⌜ (r ≡ true) ↔ Connected (now (s0 .entry)) (now (s1 .entry)) ⌝ }
 {
     let mut marks = [0u8; Diagram::MAX_SIZE];
-    let mut list = [0u16; Diagram::MAX_SIZE];
-    let mut count = reach(&mut marks, &mut list, 0, 1);
+    let mut list = [0u16; 1025];
+    connected_in(s0, s1, &mut marks, &mut list)
+}
+
+// The same with lent marks and list. The list holds the edges reached so far, each once; its first ones, done of them, are visited,
+// and the others are still to visit.
+fn connected_in(s0: &[u16], s1: &[u16], marks: &mut [u8], list: &mut [u16]) -> bool
+    requires { ⌜ Mapped (now s0) (now s1) ⌝ }
+    requires { ⌜ length (now s0) ≤ length (now marks) ⌝ }
+    requires { ⌜ Search (now marks) (now list) 0 ⌝ }
+    ensures { λ r. ⌜ (r ≡ true) ↔ Connected (now (s0 .entry)) (now (s1 .entry)) ⌝ }
+{
+    let mut count = reach(marks, list, 0, 1);
     let mut done: usize = 0;
     while done < count {
         let k = wide(list[done]);
-        count = visit(s0, s1, &mut marks, &mut list, count, k);
+        count = visit(s0, s1, marks, list, count, k);
         done += 1;
     }
     let n = s0.len();
@@ -209,41 +220,30 @@ fn connected(s0: &[u16], s1: &[u16]) -> bool
 }
 
 // Visits edge k of the list: the next edges round its black and its white vertex are reached.
-fn visit(
-    s0: &[u16],
-    s1: &[u16],
-    marks: &mut [u8; Diagram::MAX_SIZE],
-    list: &mut [u16; Diagram::MAX_SIZE],
-    count: usize,
-    k: usize,
-) -> usize
+fn visit(s0: &[u16], s1: &[u16], marks: &mut [u8], list: &mut [u16], count: usize, k: usize) -> usize
     requires { ⌜ Mapped (now s0) (now s1) ⌝ }
+    requires { ⌜ length (now s0) ≤ length (now marks) ⌝ }
     requires { ⌜ Edge (length (now s0)) k ⌝ }
     requires { ⌜ Search (now marks) (now list) count ⌝ }
     ensures { λ r. ⌜ Search (now (marks .exit)) (now (list .exit)) r
         × (take r (now (list .exit)) ≡ joined (at (now (s1 .entry)) k) (joined (at (now (s0 .entry)) k) (take count (now (list .entry))))) ⌝ }
 {
-    let more = reach(marks, list, count, next(s0, k));
-    reach(marks, list, more, next(s1, k))
+    let more = reach(marks, list, count, s0[k - 1]);
+    reach(marks, list, more, s1[k - 1])
 }
 
 // Edge x is reached: it is marked and put at the end of the list, unless it was before. Returns how many edges the list then has.
-fn reach(
-    marks: &mut [u8; Diagram::MAX_SIZE],
-    list: &mut [u16; Diagram::MAX_SIZE],
-    count: usize,
-    x: usize,
-) -> usize
+// Whether x is new is as good as random, so there is no branch on it: x is always written, and counted if its mark was 0.
+fn reach(marks: &mut [u8], list: &mut [u16], count: usize, x: u16) -> usize
     requires { ⌜ Search (now marks) (now list) count ⌝ }
-    requires { ⌜ Edge 1024 x ⌝ }
+    requires { ⌜ Edge (length (now marks)) x ⌝ }
     ensures { λ r. ⌜ Search (now (marks .exit)) (now (list .exit)) r × (take r (now (list .exit)) ≡ joined x (take count (now (list .entry)))) ⌝ }
 {
-    if marks[x - 1] == 1 {
-        return count;
-    }
-    marks[x - 1] = 1;
-    list[count] = x as u16;
-    count + 1
+    let i = wide(x) - 1;
+    let mark = marks[i];
+    marks[i] = 1;
+    list[count] = x;
+    count + (1 - mark) as usize
 }
 
 // Whether every mark is 1. A reached mark is one byte per edge, 1 when reached and otherwise 0; any other byte is no mark of a
