@@ -76,14 +76,17 @@ module _ {marks list : List ℕ} {count : ℕ} (s : Search marks list count) whe
 
     -- x was reached before: what is written past the list's end is not counted
     again : Has x (take count list) → Search (set marks (x - 1) 1) (set list count x) count × (take count (set list count x) ≡ joined x (take count list))
-    again h = (record {
-      room = rw (length-set marks (x - 1) 1, length-set list count x) (s .room);
-      count-fits = rw (length-set marks (x - 1) 1) (s .count-fits);
-      edges = rw (length-set marks (x - 1) 1, same) (s .edges);
-      apart = rw same (s .apart);
-      reached = rw (marks-same, same) (s .reached);
-      other = rw (marks-same, same) (s .other);
-    }, same ∙ sym (joined-there x (take count list) h))
+    again h = (
+      record {
+        room = rw (length-set marks (x - 1) 1, length-set list count x) (s .room);
+        count-fits = rw (length-set marks (x - 1) 1) (s .count-fits);
+        edges = rw (length-set marks (x - 1) 1, same) (s .edges);
+        apart = rw same (s .apart);
+        reached = rw (marks-same, same) (s .reached);
+        other = rw (marks-same, same) (s .other);
+      },
+      same ∙ sym (joined-there x (take count list) h),
+    )
       where
         same : take count (set list count x) ≡ take count list
         same = take-set-le count list count x (omega arith)
@@ -99,14 +102,17 @@ module _ {marks list : List ℕ} {count : ℕ} (s : Search marks list count) whe
       longer = rw add-one (take-suc-set list count x (let i = s .room in let j = below in omega arith))
 
       more : Search (set marks (x - 1) 1) (set list count x) (count + 1) × (take (count + 1) (set list count x) ≡ joined x (take count list))
-      more = (record {
-        room = rw (length-set marks (x - 1) 1, length-set list count x) (s .room);
-        count-fits = rw (length-set marks (x - 1) 1) (let l = below in omega arith);
-        edges = rw (length-set marks (x - 1) 1, longer) (λ y h. go y (last-or x y (take count list) h));
-        apart = rw longer (apart-last x (take count list) (s .apart) new);
-        reached = rw (longer, put-place marks x 1 (e .0)) (λ y h. mark y (same? y x) (last-or x y (take count list) h));
-        other = rw (longer, put-place marks x 1 (e .0)) (λ y m. unmarked y m);
-      }, longer ∙ sym (joined-new x (take count list) new))
+      more = (
+        record {
+          room = rw (length-set marks (x - 1) 1, length-set list count x) (s .room);
+          count-fits = rw (length-set marks (x - 1) 1) (let l = below in omega arith);
+          edges = rw (length-set marks (x - 1) 1, longer) (λ y h. go y (last-or x y (take count list) h));
+          apart = rw longer (apart-last x (take count list) (s .apart) new);
+          reached = rw (longer, put-place marks x 1 (e .0)) (λ y h. mark y (same? y x) (last-or x y (take count list) h));
+          other = rw (longer, put-place marks x 1 (e .0)) (λ y m. unmarked y m);
+        },
+        longer ∙ sym (joined-new x (take count list) new),
+      )
         where
           go : (y : ℕ) → Has y (take count list) ⊎ (y ≡ x) → Edge (length marks) y
           go y (inl h) = s .edges y h

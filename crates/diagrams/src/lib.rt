@@ -190,13 +190,21 @@ fn twice(s1: &[u16]) -> bool
     true
 }
 
+// Up to this size the search has small arrays: clearing large ones would take longer than the search itself.
+const SMALL: usize = 64;
+
 // Whether every edge is reached from edge 1.
 fn connected(s0: &[u16], s1: &[u16]) -> bool
     requires { ⌜ Mapped (now s0) (now s1) ⌝ }
     ensures { λ r. ⌜ (r ≡ true) ↔ Connected (now (s0 .entry)) (now (s1 .entry)) ⌝ }
 {
+    if s0.len() <= SMALL {
+        let mut marks = [0u8; SMALL];
+        let mut list = [0u16; SMALL + 1];
+        return connected_in(s0, s1, &mut marks, &mut list);
+    }
     let mut marks = [0u8; Diagram::MAX_SIZE];
-    let mut list = [0u16; 1025];
+    let mut list = [0u16; Diagram::MAX_SIZE + 1];
     connected_in(s0, s1, &mut marks, &mut list)
 }
 
@@ -220,7 +228,14 @@ fn connected_in(s0: &[u16], s1: &[u16], marks: &mut [u8], list: &mut [u16]) -> b
 }
 
 // Visits edge k of the list: the next edges round its black and its white vertex are reached.
-fn visit(s0: &[u16], s1: &[u16], marks: &mut [u8], list: &mut [u16], count: usize, k: usize) -> usize
+fn visit(
+    s0: &[u16],
+    s1: &[u16],
+    marks: &mut [u8],
+    list: &mut [u16],
+    count: usize,
+    k: usize,
+) -> usize
     requires { ⌜ Mapped (now s0) (now s1) ⌝ }
     requires { ⌜ length (now s0) ≤ length (now marks) ⌝ }
     requires { ⌜ Edge (length (now s0)) k ⌝ }

@@ -59,7 +59,7 @@ same-length-2 : tie.Need-same-length-2 Inv-loop μ-loop
 same-length-2 c = search needs
 
 returns : tie.Need-returns Inv-loop μ-loop
-returns c = 
+returns c =
     let e = marks-connected (c .before .before .before .before .before .before .before .before .before .before .before .before .before .before .before .pre .0) (c .before .before .before .loop .inv .2) (c .before .before .before .loop .inv .3) (slice-reshare-prefix-all-reached (c .before .before)) (c .before .before .loop-test .left) in
     (λ r. e .0 (c .all-reached .ensures .0 r), λ a. c .all-reached .ensures .1 (e .1 a))
 
