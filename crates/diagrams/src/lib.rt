@@ -12,7 +12,7 @@ ghost use Prim.Native.Nat.{_≤_};
 ghost use lib.ListN.{length, take};
 ghost use Rattle.lists.specs.Lists.{at};
 ghost use Rattle.lists.specs.Ranges.{Edge};
-ghost use Rattle.diagrams.specs.Check.{Entries, Thrice, Twice, Connected, Accepts, Checked, AllOne};
+ghost use Rattle.diagrams.specs.Check.{Size, Entries, Thrice, Twice, Connected, Accepts, Checked, AllOne};
 ghost use Rattle.diagrams.specs.Held.{Held, MadeOf};
 ghost use Rattle.diagrams.specs.Search.{Mapped, joined, Search};
 
@@ -143,19 +143,20 @@ fn next(s: &[u16], x: usize) -> usize
     wide(s[x - 1])
 }
 
-// Whether every entry is an edge.
+// Whether every entry is an edge. It looks at all entries in any case, so that several can be looked at together.
 fn entries_in(s: &[u16]) -> bool
+    requires { ⌜ Size (now s) ⌝ }
     ensures { λ r. ⌜ (r ≡ true) ↔ Entries (length (now (s .entry))) (now (s .entry)) ⌝ }
 {
-    let n = s.len();
-    let mut x: usize = 1;
-    while x <= n {
-        if !within(next(s, x) as u64, n) {
-            return false;
-        }
-        x += 1;
+    let n = s.len() as u16;
+    let mut good = true;
+    let mut i: usize = 0;
+    while i < s.len() {
+        let x = s[i];
+        good = good & ((1 <= x) & (x <= n));
+        i += 1;
     }
-    true
+    good
 }
 
 // Whether s0 thrice gives every edge back.
@@ -266,12 +267,11 @@ fn reach(marks: &mut [u8], list: &mut [u16], count: usize, x: u16) -> usize
 pub fn all_reached(marks: &[u8]) -> bool
     ensures { λ r. ⌜ (r ≡ true) ↔ AllOne (now (marks .entry)) ⌝ }
 {
+    let mut all = true;
     let mut i: usize = 0;
     while i < marks.len() {
-        if marks[i] != 1 {
-            return false;
-        }
+        all = all & (marks[i] == 1);
         i += 1;
     }
-    true
+    all
 }
