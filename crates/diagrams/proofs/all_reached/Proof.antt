@@ -7,8 +7,6 @@ use Rattle.lists.proofs.Tests.{eqb-true, eqb-eq}
 use Rattle.diagrams.proofs.Answers.{Tested, tested-none, tested-more, tested-all}
 use Rattle.diagrams.proofs.all_reached.Statement.{statement}
 use Rattle.diagrams.proofs.all_reached.Tie as tie
-use Rattle.diagrams.proofs.all_reached.Reads as reads
-use Rattle.diagrams.proofs.all_reached.Lts as lts
 
 abbrev Inv-loop : tie.InvT-loop
 Inv-loop marks all₀ i₀ all i = Tested (λ k. getD marks k 0 ≡ 1) (length marks) i all

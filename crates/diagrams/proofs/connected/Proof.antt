@@ -3,8 +3,6 @@ use borrow.Author.Needs.{needs}
 use Rattle.diagrams.proofs.Searching.{search-none}
 use Rattle.diagrams.proofs.connected.Statement.{statement}
 use Rattle.diagrams.proofs.connected.Tie as tie
-use Rattle.diagrams.proofs.connected.Reads as reads
-use Rattle.diagrams.proofs.connected.Lts as lts
 
 slice-aggregate-connected-in : tie.Need-slice-aggregate-connected-in
 slice-aggregate-connected-in c = search needs

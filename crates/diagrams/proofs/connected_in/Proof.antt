@@ -11,7 +11,8 @@ use Rattle.diagrams.proofs.connected_in.Statement.{statement}
 use Rattle.diagrams.proofs.connected_in.Tie as tie
 
 abbrev Inv-loop : tie.InvT-loop
-Inv-loop s0 s1 marks₀ list₀ count₀ done₀ marks list count done = (length marks ≡ length marks₀) × (length list ≡ length list₀) × Search marks list count × Found (at s0) (at s1) (take count list) done
+Inv-loop s0 s1 marks₀ list₀ count₀ done₀ marks list count done =
+    (length marks ≡ length marks₀) × (length list ≡ length list₀) × Search marks list count × Found (at s0) (at s1) (take count list) done
 
 abbrev μ-loop : tie.MeasureT-loop
 μ-loop s0 s1 marks₀ list₀ count₀ done₀ marks list count done = length marks - done
@@ -20,7 +21,9 @@ reach-requires : tie.Need-reach-requires Inv-loop μ-loop
 reach-requires c κs = (c .before .before .before .before .before .before .pre .1 .1, search needs)
 
 loop-holds : tie.Need-loop-holds Inv-loop μ-loop
-loop-holds c = (search needs, search needs, c .before .before .before .before .reach .ensures .0, rw (c .before .before .before .before .reach .ensures .1) (found-first _ _))
+loop-holds c =
+    let r = c .before .before .before .before .reach .ensures in
+    (search needs, search needs, r .0, rw (r .1) (found-first _ _))
 
 mul-wide : tie.Need-mul-wide Inv-loop μ-loop
 mul-wide c = search needs
@@ -32,7 +35,10 @@ wide-requires : tie.Need-wide-requires Inv-loop μ-loop
 wide-requires c κs = search needs
 
 visit-requires : tie.Need-visit-requires Inv-loop μ-loop
-visit-requires c κs = (c .before .before .before .before .before .before .before .before .before .before .before .before .before .before .before .before .before .pre .0, (search needs, (rw (c .before .before .wide .ensures) (listed-edge (c .before .before .before .before .before .before .before .before .before .before .before .before .before .before .before .before .before .pre .0) (c .before .before .before .before .before .loop .inv .2) (c .before .before .before .before .before .loop .inv .3) (c .before .before .before .before .loop-test .taken)), c .before .before .before .before .before .loop .inv .2)))
+visit-requires c κs =
+    let m = c .before .before .before .before .before .before .before .before .before .before .before .before .before .before .before .before .before .pre .0 in
+    let i = c .before .before .before .before .before .loop .inv in
+    (m, (search needs, (rw (c .before .before .wide .ensures) (listed-edge m (i .2) (i .3) (c .before .before .before .before .loop-test .taken)), i .2)))
 
 add-done : tie.Need-add-done Inv-loop μ-loop
 add-done c = search needs
@@ -41,7 +47,11 @@ loop-less : tie.Need-loop-less Inv-loop μ-loop
 loop-less c = search needs
 
 loop-again : tie.Need-loop-again Inv-loop μ-loop
-loop-again c = (search needs, search needs, c .before .before .before .before .visit .ensures .0, rw (c .before .before .before .before .visit .ensures .1, c .before .before .before .before .before .before .before .wide .ensures) (found-next (c .before .before .before .before .before .before .before .before .before .before .before .before .before .before .before .before .before .before .before .before .before .before .pre .0) (c .before .before .before .before .before .before .before .before .before .before .loop .inv .2) (c .before .before .before .before .before .before .before .before .before .before .loop .inv .3) (c .before .before .before .before .before .before .before .before .before .loop-test .taken)))
+loop-again c =
+    let m = c .before .before .before .before .before .before .before .before .before .before .before .before .before .before .before .before .before .before .before .before .before .before .pre .0 in
+    let i = c .before .before .before .before .before .before .before .before .before .before .loop .inv in
+    let v = c .before .before .before .before .visit .ensures in
+    (search needs, search needs, v .0, rw (v .1, c .before .before .before .before .before .before .before .wide .ensures) (found-next m (i .2) (i .3) (c .before .before .before .before .before .before .before .before .before .loop-test .taken)))
 
 slice-reshare-prefix-all-reached : tie.Need-slice-reshare-prefix-all-reached Inv-loop μ-loop
 slice-reshare-prefix-all-reached c = search needs
@@ -60,7 +70,8 @@ same-length-2 c = search needs
 
 returns : tie.Need-returns Inv-loop μ-loop
 returns c =
-    let e = marks-connected (c .before .before .before .before .before .before .before .before .before .before .before .before .before .before .before .pre .0) (c .before .before .before .loop .inv .2) (c .before .before .before .loop .inv .3) (slice-reshare-prefix-all-reached (c .before .before)) (c .before .before .loop-test .left) in
+    let i = c .before .before .before .loop .inv in
+    let e = marks-connected (c .before .before .before .before .before .before .before .before .before .before .before .before .before .before .before .pre .0) (i .2) (i .3) (slice-reshare-prefix-all-reached (c .before .before)) (c .before .before .loop-test .left) in
     (λ r. e .0 (c .all-reached .ensures .0 r), λ a. c .all-reached .ensures .1 (e .1 a))
 
 pub connected-in-spec : {M : Type 1} → statement M

@@ -7,8 +7,6 @@ use Rattle.diagrams.proofs.Answers.{edge-test, Tested, tested-none, tes
 use Rattle.diagrams.proofs.Entries.{places-edges}
 use Rattle.diagrams.proofs.entries_in.Statement.{statement}
 use Rattle.diagrams.proofs.entries_in.Tie as tie
-use Rattle.diagrams.proofs.entries_in.Reads as reads
-use Rattle.diagrams.proofs.entries_in.Lts as lts
 
 abbrev Inv-loop : tie.InvT-loop
 Inv-loop s n good₀ i₀ good i = Tested (λ k. Edge (length s) (getD s k 0)) (length s) i good

@@ -15,7 +15,9 @@ shared-slice-read-reach : tie.Need-shared-slice-read-reach
 shared-slice-read-reach c = search needs
 
 reach-requires : tie.Need-reach-requires
-reach-requires c κs = (c .before .before .before .before .before .before .before .pre .1 .1 .1, black-small (c .before .before .before .before .before .before .before .pre .0) _ (c .before .before .before .before .before .before .before .pre .1 .0) (c .before .before .before .before .before .before .before .args .k) (c .before .before .before .before .before .before .before .pre .1 .1 .0))
+reach-requires c κs =
+    let s = c .before .before .before .before .before .before .before in
+    (s .pre .1 .1 .1, black-small (s .pre .0) _ (s .pre .1 .0) (s .args .k) (s .pre .1 .1 .0))
 
 sub-reach-2 : tie.Need-sub-reach-2
 sub-reach-2 c = search needs
@@ -27,7 +29,9 @@ shared-slice-read-reach-2 : tie.Need-shared-slice-read-reach-2
 shared-slice-read-reach-2 c = search needs
 
 reach-requires-2 : tie.Need-reach-requires-2
-reach-requires-2 c κs = (c .before .before .before .before .before .before .before .reach .ensures .0, white-small (c .before .before .before .before .before .before .before .before .before .before .before .before .before .before .before .pre .0) _ (search needs) (c .before .before .before .before .before .before .before .before .before .before .before .before .before .before .before .args .k) (c .before .before .before .before .before .before .before .before .before .before .before .before .before .before .before .pre .1 .1 .0))
+reach-requires-2 c κs =
+    let s = c .before .before .before .before .before .before .before .before .before .before .before .before .before .before .before in
+    (c .before .before .before .before .before .before .before .reach .ensures .0, white-small (s .pre .0) _ (search needs) (s .args .k) (s .pre .1 .1 .0))
 
 same-length : tie.Need-same-length
 same-length c = search needs
@@ -36,7 +40,10 @@ same-length-2 : tie.Need-same-length-2
 same-length-2 c = search needs
 
 returns : tie.Need-returns
-returns c = (c .before .before .before .before .reach2 .ensures .0, cc (at-place (c .before .before .before .before .before .before .before .before .before .before .before .before .before .before .before .before .before .before .before .before .args .s0 .now) (c .before .before .before .before .before .before .before .before .before .before .before .before .before .before .before .before .before .before .before .before .args .k) (c .before .before .before .before .before .before .before .before .before .before .before .before .before .before .before .before .before .before .before .before .pre .1 .1 .0 .0), at-place (c .before .before .before .before .before .before .before .before .before .before .before .before .before .before .before .before .before .before .before .before .args .s1 .now) (c .before .before .before .before .before .before .before .before .before .before .before .before .before .before .before .before .before .before .before .before .args .k) (c .before .before .before .before .before .before .before .before .before .before .before .before .before .before .before .before .before .before .before .before .pre .1 .1 .0 .0)))
+returns c =
+    let s = c .before .before .before .before .before .before .before .before .before .before .before .before .before .before .before .before .before .before .before .before in
+    let e = s .pre .1 .1 .0 .0 in
+    (c .before .before .before .before .reach2 .ensures .0, cc (at-place (s .args .s0 .now) (s .args .k) e, at-place (s .args .s1 .now) (s .args .k) e))
 
 pub visit-spec : {M : Type 1} → statement M
 visit-spec =
