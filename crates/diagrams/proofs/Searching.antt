@@ -1,13 +1,13 @@
 -- Laws of the search: an edge is put on the list at most once, so the list has room; and a list that holds edge 1 and, with each
 -- edge, both its neighbours, holds every edge that is reached.
-use mathlib.Core.Path.{_≡_, refl, sym, _∙_}
+use mathlib.Core.Path.{_≡_, refl, sym, ap, _∙_}
 use mathlib.Core.Logic.{_≢_, _⊎_, inl, inr, ⊎-elim, _↔_}
 use mathlib.Core.List.{List, [], _∷_, _++_}
 use Prim.Native.Nat.{ℕ, zero, suc, _+_, _-_, _≤_, _<_}
 use native.Mathlib.Omega.{arith}
 use native.Mathlib.Numerals.{add-one}
 use lib.ListN.{length, getD, take, set, replicate, length-set, length-replicate}
-use lib.Seq.{length-take-le, take-suc-set, take-suc, take-all, take-append-le, getD-take}
+use lib.Seq.{length-take-le, take-suc-set, take-set-le, take-suc, take-all, take-append-le, getD-take, set-getD}
 use Rattle.lists.specs.Lists.{at, put, Has, has, Apart}
 use Rattle.lists.specs.Ranges.{Edge, down}
 use Rattle.lists.proofs.Tests.{same?, pick-all}
@@ -63,53 +63,87 @@ module _ {marks list : List ℕ} {count : ℕ} (s : Search marks list count) whe
       go (inl h) = h
       go (inr m) = let z = s .other x m in absurd (omega arith)
 
-  pub search-again : (x : ℕ) → Edge 1024 x → getD marks (x - 1) 0 ≡ 1 → take count list ≡ joined x (take count list)
-  search-again x e q = sym (joined-there x (take count list) (marked-there x (sym (at-place marks x (e .0)) ∙ q)))
+  module _ (x : ℕ) (e : Edge (length marks) x) where
+    mark-at : getD marks (x - 1) 0 ≡ at marks x
+    mark-at = at-place marks x (e .0)
 
-  module _ (x : ℕ) (e : Edge 1024 x) (n : getD marks (x - 1) 0 ≢ 1) where
-    new : ¬ Has x (take count list)
-    new h = n (at-place marks x (e .0) ∙ s .reached x h)
-
-    pub search-room : count < 1024
-    search-room = let z = room 1024 x (take count list) (s .apart) (s .edges) e new in let w = length-take-le count list (rw (s .list-long) (s .count-fits)) in omega arith
-
-    longer : take (count + 1) (set list count x) ≡ take count list ++ (x ∷ [])
-    longer = rw add-one (take-suc-set list count x (rw (s .list-long) search-room))
-
-    pub search-joined : take (count + 1) (set list count x) ≡ joined x (take count list)
-    search-joined = longer ∙ sym (joined-new x (take count list) new)
-
-    pub search-more : Search (set marks (x - 1) 1) (set list count x) (count + 1)
-    search-more = record {
-      marks-long = length-set marks (x - 1) 1 ∙ s .marks-long;
-      list-long = length-set list count x ∙ s .list-long;
-      count-fits = let l = search-room in omega arith;
-      edges = rw longer (λ y h. go y (last-or x y (take count list) h));
-      apart = rw longer (apart-last x (take count list) (s .apart) new);
-      reached = rw (longer, put-place marks x 1 (e .0)) (λ y h. mark y (same? y x) (last-or x y (take count list) h));
-      other = rw (longer, put-place marks x 1 (e .0)) (λ y m. unmarked y m);
-    }
+    pub mark-small : getD marks (x - 1) 0 ≤ 1
+    mark-small = go (has? x (take count list))
       where
-        go : (y : ℕ) → Has y (take count list) ⊎ (y ≡ x) → Edge 1024 y
-        go y (inl h) = s .edges y h
-        go y (inr q) = rw q e
+        go : Has x (take count list) ⊎ (¬ Has x (take count list)) → getD marks (x - 1) 0 ≤ 1
+        go (inl h) = let z = mark-at in let w = s .reached x h in omega arith
+        go (inr m) = let z = mark-at in let w = s .other x m in omega arith
 
-        mark : (y : ℕ) → (y ≡ x) ⊎ (y ≢ x) → Has y (take count list) ⊎ (y ≡ x) → at (put marks x 1) y ≡ 1
-        mark y (inl q) h = rw q (at-put-same marks x 1 (rw (s .marks-long) e))
-        mark y (inr d) (inl h) = at-put-other marks x 1 y d ∙ s .reached y h
-        mark y (inr d) (inr q) = absurd (d q)
+    -- x was reached before: what is written past the list's end is not counted
+    again : Has x (take count list) → Search (set marks (x - 1) 1) (set list count x) count × (take count (set list count x) ≡ joined x (take count list))
+    again h = (
+      record {
+        room = rw (length-set marks (x - 1) 1, length-set list count x) (s .room);
+        count-fits = rw (length-set marks (x - 1) 1) (s .count-fits);
+        edges = rw (length-set marks (x - 1) 1, same) (s .edges);
+        apart = rw same (s .apart);
+        reached = rw (marks-same, same) (s .reached);
+        other = rw (marks-same, same) (s .other);
+      },
+      same ∙ sym (joined-there x (take count list) h),
+    )
+      where
+        same : take count (set list count x) ≡ take count list
+        same = take-set-le count list count x (omega arith)
 
-        unmarked : (y : ℕ) → ¬ Has y (take count list ++ (x ∷ [])) → at (put marks x 1) y ≡ 0
-        unmarked y m = at-put-other marks x 1 y (λ q. m (rw q (has-last x (take count list)))) ∙ s .other y (λ h. m (has-left y (take count list) (x ∷ []) h))
+        marks-same : set marks (x - 1) 1 ≡ marks
+        marks-same = ap (set marks (x - 1)) (sym (mark-at ∙ s .reached x h)) ∙ set-getD marks (x - 1) 0
 
--- ---- both neighbours of an edge have room
+    module _ (new : ¬ Has x (take count list)) where
+      below : count < length marks
+      below = let z = room (length marks) x (take count list) (s .apart) (s .edges) e new in let w = length-take-le count list (let i = s .room in let j = s .count-fits in omega arith) in omega arith
 
-module _ {s0 s1 : List ℕ} (m : Mapped s0 s1) (k : ℕ) (e : Edge (length s0) k) where
-  pub black-small : Edge 1024 (at s0 k)
-  black-small = let i = m .maps .black-in k e in let j = m .size in omega arith
+      longer : take (count + 1) (set list count x) ≡ take count list ++ (x ∷ [])
+      longer = rw add-one (take-suc-set list count x (let i = s .room in let j = below in omega arith))
 
-  pub white-small : Edge 1024 (at s1 k)
-  white-small = let i = m .maps .white-in k e in let j = m .size in omega arith
+      more : Search (set marks (x - 1) 1) (set list count x) (count + 1) × (take (count + 1) (set list count x) ≡ joined x (take count list))
+      more = (
+        record {
+          room = rw (length-set marks (x - 1) 1, length-set list count x) (s .room);
+          count-fits = rw (length-set marks (x - 1) 1) (let l = below in omega arith);
+          edges = rw (length-set marks (x - 1) 1, longer) (λ y h. go y (last-or x y (take count list) h));
+          apart = rw longer (apart-last x (take count list) (s .apart) new);
+          reached = rw (longer, put-place marks x 1 (e .0)) (λ y h. mark y (same? y x) (last-or x y (take count list) h));
+          other = rw (longer, put-place marks x 1 (e .0)) (λ y m. unmarked y m);
+        },
+        longer ∙ sym (joined-new x (take count list) new),
+      )
+        where
+          go : (y : ℕ) → Has y (take count list) ⊎ (y ≡ x) → Edge (length marks) y
+          go y (inl h) = s .edges y h
+          go y (inr q) = rw q e
+
+          mark : (y : ℕ) → (y ≡ x) ⊎ (y ≢ x) → Has y (take count list) ⊎ (y ≡ x) → at (put marks x 1) y ≡ 1
+          mark y (inl q) h = rw q (at-put-same marks x 1 e)
+          mark y (inr d) (inl h) = at-put-other marks x 1 y d ∙ s .reached y h
+          mark y (inr d) (inr q) = absurd (d q)
+
+          unmarked : (y : ℕ) → ¬ Has y (take count list ++ (x ∷ [])) → at (put marks x 1) y ≡ 0
+          unmarked y m = at-put-other marks x 1 y (λ q. m (rw q (has-last x (take count list)))) ∙ s .other y (λ h. m (has-left y (take count list) (x ∷ []) h))
+
+    -- x is marked, written at the end and counted unless it was marked before
+    pub search-reach : (r : ℕ) → r ≡ count + (1 - getD marks (x - 1) 0)
+        → Search (set marks (x - 1) 1) (set list count x) r × (take r (set list count x) ≡ joined x (take count list))
+    search-reach r q = go (has? x (take count list))
+      where
+        go : Has x (take count list) ⊎ (¬ Has x (take count list))
+            → Search (set marks (x - 1) 1) (set list count x) r × (take r (set list count x) ≡ joined x (take count list))
+        go (inl h) = let w : r ≡ count = let z = mark-at in let v = s .reached x h in omega arith in rw w (again h)
+        go (inr m) = let w : r ≡ count + 1 = let z = mark-at in let v = s .other x m in omega arith in rw w (more m)
+
+-- ---- both neighbours of an edge have a mark
+
+module _ {s0 s1 : List ℕ} (m : Mapped s0 s1) (n : ℕ) (f : length s0 ≤ n) (k : ℕ) (e : Edge (length s0) k) where
+  pub black-small : Edge n (getD s0 (k - 1) 0)
+  black-small = rw (at-place s0 k (e .0)) (let i = m .maps .black-in k e in omega arith)
+
+  pub white-small : Edge n (getD s1 (k - 1) 0)
+  white-small = rw (at-place s1 k (e .0)) (let i = m .maps .white-in k e in omega arith)
 
 -- ---- what the search has found
 
@@ -187,20 +221,19 @@ at-zeros zero (suc i) = refl
 at-zeros (suc n) (suc zero) = refl
 at-zeros (suc n) (suc (suc i)) = at-zeros n (suc i)
 
-pub search-none : Search (replicate 1024 0) (replicate 1024 0) 0
-search-none = record {
-  marks-long = length-replicate {A = ℕ} 1024 0;
-  list-long = length-replicate {A = ℕ} 1024 0;
+pub search-none : (n : ℕ) → Search (replicate n 0) (replicate (n + 1) 0) 0
+search-none n = record {
+  room = rw (length-replicate {A = ℕ} n 0, length-replicate {A = ℕ} (n + 1) 0) (omega arith);
   count-fits = omega arith;
   edges = λ x h. absurd h;
   apart = tt;
   reached = λ x h. absurd h;
-  other = λ x m. at-zeros 1024 x;
+  other = λ x m. at-zeros n x;
 }
 
 module _ {s0 s1 marks list : List ℕ} {count done : ℕ} (m : Mapped s0 s1) (s : Search marks list count) (F : Found (at s0) (at s1) (take count list) done) where
   listed-length : length (take count list) ≡ count
-  listed-length = length-take-le count list (rw (s .list-long) (s .count-fits))
+  listed-length = length-take-le count list (let i = s .room in let j = s .count-fits in omega arith)
 
   module _ (h : done < count) where
     listed-at : getD (take count list) done 0 ≡ getD list done 0
@@ -213,14 +246,14 @@ module _ {s0 s1 marks list : List ℕ} {count done : ℕ} (m : Mapped s0 s1) (s 
     found-next = found-more (at s0) (at s1) F (getD list done 0) (rw listed-length h) (sym listed-at)
 
   -- every edge is visited: the marks of 1..n are all 1 exactly if every edge is reached
-  pub marks-connected : count ≤ done → AllOne (take (length s0) marks) ↔ Connected s0 s1
-  marks-connected h = (to, from)
+  pub marks-connected : length s0 ≤ length marks → count ≤ done → AllOne (take (length s0) marks) ↔ Connected s0 s1
+  marks-connected f h = (to, from)
     where
       n : ℕ
       n = length s0
 
       long : length (take n marks) ≡ n
-      long = length-take-le n marks (let i = m .size in let j = s .marks-long in omega arith)
+      long = length-take-le n marks f
 
       to : AllOne (take n marks) → Connected s0 s1
       to a zero e = absurd (omega arith)

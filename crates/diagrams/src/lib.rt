@@ -8,10 +8,11 @@ ghost use mathlib.Core.Path.{_≡_};
 ghost use mathlib.Core.Logic.{_↔_};
 ghost use mathlib.Core.Bool.{true};
 ghost use mathlib.Core.List.{[], _∷_};
+ghost use Prim.Native.Nat.{_≤_};
 ghost use lib.ListN.{length, take};
 ghost use Rattle.lists.specs.Lists.{at};
 ghost use Rattle.lists.specs.Ranges.{Edge};
-ghost use Rattle.diagrams.specs.Check.{Entries, Thrice, Twice, Connected, Accepts, Checked, AllOne};
+ghost use Rattle.diagrams.specs.Check.{Size, Entries, Thrice, Twice, Connected, Accepts, Checked, AllOne};
 ghost use Rattle.diagrams.specs.Held.{Held, MadeOf};
 ghost use Rattle.diagrams.specs.Search.{Mapped, joined, Search};
 
@@ -142,19 +143,20 @@ fn next(s: &[u16], x: usize) -> usize
     wide(s[x - 1])
 }
 
-// Whether every entry is an edge.
+// Whether every entry is an edge. It looks at all entries in any case, so that several can be looked at together.
 fn entries_in(s: &[u16]) -> bool
+    requires { ⌜ Size (now s) ⌝ }
     ensures { λ r. ⌜ (r ≡ true) ↔ Entries (length (now (s .entry))) (now (s .entry)) ⌝ }
 {
-    let n = s.len();
-    let mut x: usize = 1;
-    while x <= n {
-        if !within(next(s, x) as u64, n) {
-            return false;
-        }
-        x += 1;
+    let n = s.len() as u16;
+    let mut good = true;
+    let mut i: usize = 0;
+    while i < s.len() {
+        let x = s[i];
+        good = good & ((1 <= x) & (x <= n));
+        i += 1;
     }
-    true
+    good
 }
 
 // Whether s0 thrice gives every edge back.
@@ -189,19 +191,37 @@ fn twice(s1: &[u16]) -> bool
     true
 }
 
-// Whether every edge is reached from edge 1. The list holds the edges reached so far, each once; its first ones, done of them, are
-// visited, and the others are still to visit.
+// Up to this size the search has small arrays: clearing large ones would take longer than the search itself.
+const SMALL: usize = 64;
+
+// Whether every edge is reached from edge 1.
 fn connected(s0: &[u16], s1: &[u16]) -> bool
     requires { ⌜ Mapped (now s0) (now s1) ⌝ }
     ensures { λ r. ⌜ (r ≡ true) ↔ Connected (now (s0 .entry)) (now (s1 .entry)) ⌝ }
 {
+    if s0.len() <= SMALL {
+        let mut marks = [0u8; SMALL];
+        let mut list = [0u16; SMALL + 1];
+        return connected_in(s0, s1, &mut marks, &mut list);
+    }
     let mut marks = [0u8; Diagram::MAX_SIZE];
-    let mut list = [0u16; Diagram::MAX_SIZE];
-    let mut count = reach(&mut marks, &mut list, 0, 1);
+    let mut list = [0u16; Diagram::MAX_SIZE + 1];
+    connected_in(s0, s1, &mut marks, &mut list)
+}
+
+// The same with lent marks and list. The list holds the edges reached so far, each once; its first ones, done of them, are visited,
+// and the others are still to visit.
+fn connected_in(s0: &[u16], s1: &[u16], marks: &mut [u8], list: &mut [u16]) -> bool
+    requires { ⌜ Mapped (now s0) (now s1) ⌝ }
+    requires { ⌜ length (now s0) ≤ length (now marks) ⌝ }
+    requires { ⌜ Search (now marks) (now list) 0 ⌝ }
+    ensures { λ r. ⌜ (r ≡ true) ↔ Connected (now (s0 .entry)) (now (s1 .entry)) ⌝ }
+{
+    let mut count = reach(marks, list, 0, 1);
     let mut done: usize = 0;
     while done < count {
         let k = wide(list[done]);
-        count = visit(s0, s1, &mut marks, &mut list, count, k);
+        count = visit(s0, s1, marks, list, count, k);
         done += 1;
     }
     let n = s0.len();
@@ -212,38 +232,34 @@ fn connected(s0: &[u16], s1: &[u16]) -> bool
 fn visit(
     s0: &[u16],
     s1: &[u16],
-    marks: &mut [u8; Diagram::MAX_SIZE],
-    list: &mut [u16; Diagram::MAX_SIZE],
+    marks: &mut [u8],
+    list: &mut [u16],
     count: usize,
     k: usize,
 ) -> usize
     requires { ⌜ Mapped (now s0) (now s1) ⌝ }
+    requires { ⌜ length (now s0) ≤ length (now marks) ⌝ }
     requires { ⌜ Edge (length (now s0)) k ⌝ }
     requires { ⌜ Search (now marks) (now list) count ⌝ }
     ensures { λ r. ⌜ Search (now (marks .exit)) (now (list .exit)) r
         × (take r (now (list .exit)) ≡ joined (at (now (s1 .entry)) k) (joined (at (now (s0 .entry)) k) (take count (now (list .entry))))) ⌝ }
 {
-    let more = reach(marks, list, count, next(s0, k));
-    reach(marks, list, more, next(s1, k))
+    let more = reach(marks, list, count, s0[k - 1]);
+    reach(marks, list, more, s1[k - 1])
 }
 
 // Edge x is reached: it is marked and put at the end of the list, unless it was before. Returns how many edges the list then has.
-fn reach(
-    marks: &mut [u8; Diagram::MAX_SIZE],
-    list: &mut [u16; Diagram::MAX_SIZE],
-    count: usize,
-    x: usize,
-) -> usize
+// Whether x is new is as good as random, so there is no branch on it: x is always written, and counted if its mark was 0.
+fn reach(marks: &mut [u8], list: &mut [u16], count: usize, x: u16) -> usize
     requires { ⌜ Search (now marks) (now list) count ⌝ }
-    requires { ⌜ Edge 1024 x ⌝ }
+    requires { ⌜ Edge (length (now marks)) x ⌝ }
     ensures { λ r. ⌜ Search (now (marks .exit)) (now (list .exit)) r × (take r (now (list .exit)) ≡ joined x (take count (now (list .entry)))) ⌝ }
 {
-    if marks[x - 1] == 1 {
-        return count;
-    }
-    marks[x - 1] = 1;
-    list[count] = x as u16;
-    count + 1
+    let i = wide(x) - 1;
+    let mark = marks[i];
+    marks[i] = 1;
+    list[count] = x;
+    count + (1 - mark) as usize
 }
 
 // Whether every mark is 1. A reached mark is one byte per edge, 1 when reached and otherwise 0; any other byte is no mark of a
@@ -251,12 +267,11 @@ fn reach(
 pub fn all_reached(marks: &[u8]) -> bool
     ensures { λ r. ⌜ (r ≡ true) ↔ AllOne (now (marks .entry)) ⌝ }
 {
+    let mut all = true;
     let mut i: usize = 0;
     while i < marks.len() {
-        if marks[i] != 1 {
-            return false;
-        }
+        all = all & (marks[i] == 1);
         i += 1;
     }
-    true
+    all
 }

@@ -51,13 +51,13 @@ returns-3 : tie.Need-returns-3
 returns-3 c = refuses _ _ _ 3 (past-2 (c .before .before)) (no-fails (c .before .within2 .ensures) (not-true _ (c .if3 .taken)))
 
 entries-in-requires : tie.Need-entries-in-requires
-entries-in-requires c κs = search needs
+entries-in-requires c κs = past-1 (c .before .before .before) .1
 
 returns-4 : tie.Need-returns-4
 returns-4 c = refuses _ _ _ 4 (past-3 (c .before .before)) (no-fails (c .before .entries-in .ensures) (not-true _ (c .if4 .taken)))
 
 entries-in-requires-2 : tie.Need-entries-in-requires-2
-entries-in-requires-2 c κs = search needs
+entries-in-requires-2 c κs = rw (past-2 (c .before .before .before .before) .1) (past-1 (c .before .before .before .before .before) .1)
 
 returns-5 : tie.Need-returns-5
 returns-5 c = refuses _ _ _ 5 (past-4 (c .before .before)) (rw (← past-2 (c .before .before .before .before .before .before) .1) (no-fails (c .before .entries-in2 .ensures) (not-true _ (c .if5 .taken))))

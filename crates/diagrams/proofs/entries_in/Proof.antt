@@ -1,42 +1,45 @@
--- `entries_in` meets its contract: the loop has passed only edges whose entry is an edge.
-use Prim.Native.Nat.{_+_, _-_}
+-- `entries_in` meets its contract: good says whether each entry so far is an edge.
 use borrow.Author.Needs.{needs}
-use borrow.Author.Tests.{not-true, not-false}
-use Rattle.lists.specs.Lists.{at}
+use Prim.Native.Nat.{_-_}
+use lib.ListN.{length, getD}
 use Rattle.lists.specs.Ranges.{Edge}
-use Rattle.diagrams.proofs.Answers.{answer-yes, answer-no, yes-holds, no-fails, Passed, passed-none, passed-more, passed-all}
+use Rattle.diagrams.proofs.Answers.{edge-test, Tested, tested-none, tested-more, tested-all}
+use Rattle.diagrams.proofs.Entries.{places-edges}
 use Rattle.diagrams.proofs.entries_in.Statement.{statement}
 use Rattle.diagrams.proofs.entries_in.Tie as tie
 
 abbrev Inv-loop : tie.InvT-loop
-Inv-loop s n x₀ x = Passed (λ y. Edge n (at s y)) n x
+Inv-loop s n good₀ i₀ good i = Tested (λ k. Edge (length s) (getD s k 0)) (length s) i good
 
 abbrev μ-loop : tie.MeasureT-loop
-μ-loop s n x₀ x = n + 1 - x
+μ-loop s n good₀ i₀ good i = length s - i
+
+cast-n : tie.Need-cast-n Inv-loop μ-loop
+cast-n c = search needs
 
 loop-holds : tie.Need-loop-holds Inv-loop μ-loop
-loop-holds c = passed-none _ _
+loop-holds c = tested-none _ _
 
-next-requires : tie.Need-next-requires Inv-loop μ-loop
-next-requires c κs = search needs
+mul-x : tie.Need-mul-x Inv-loop μ-loop
+mul-x c = search needs
 
-within-requires : tie.Need-within-requires Inv-loop μ-loop
-within-requires c κs = search needs
+shared-slice-read-x : tie.Need-shared-slice-read-x Inv-loop μ-loop
+shared-slice-read-x c = search needs
 
-returns : tie.Need-returns Inv-loop μ-loop
-returns c = answer-no (λ a. no-fails (c .before .within .ensures) (not-true _ (c .if1 .taken)) (rw (c .before .before .next .ensures) (a (c .before .before .before .before .loop .x) (search needs))))
-
-add-x : tie.Need-add-x Inv-loop μ-loop
-add-x c = search needs
+add-i : tie.Need-add-i Inv-loop μ-loop
+add-i c = search needs
 
 loop-less : tie.Need-loop-less Inv-loop μ-loop
 loop-less c = search needs
 
 loop-again : tie.Need-loop-again Inv-loop μ-loop
-loop-again c = passed-more _ (c .before .before .before .before .loop .inv) (search needs) (rw (← c .before .before .next .ensures) (yes-holds (c .before .within .ensures) (not-false _ (c .if1 .left))))
+loop-again c = tested-more _ _ (c .before .before .loop .inv) (search needs) (edge-test _ _)
 
-returns-2 : tie.Need-returns-2 Inv-loop μ-loop
-returns-2 c = answer-yes (passed-all _ (c .before .loop .inv) (search needs))
+returns : tie.Need-returns Inv-loop μ-loop
+returns c =
+    let a = tested-all _ (c .before .loop .inv) (c .loop-test .left) in
+    let b = places-edges (Edge (length (c .before .before .args .s .now))) (c .before .before .args .s .now) in
+    (λ q. b .0 (a .0 q), λ e. a .1 (b .1 e))
 
 pub entries-in-spec : {M : Type 1} → statement M
 entries-in-spec =
@@ -44,11 +47,11 @@ entries-in-spec =
     (tie.spec
     Inv-loop
     μ-loop
+    cast-n
     loop-holds
-    next-requires
-    within-requires
-    returns
-    add-x
+    mul-x
+    shared-slice-read-x
+    add-i
     loop-less
     loop-again
-    returns-2)
+    returns)

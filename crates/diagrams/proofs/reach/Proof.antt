@@ -1,50 +1,59 @@
--- `reach` meets its contract: a marked edge is on the list already, any other has room at its end.
+-- `reach` meets its contract: a mark is 0 or 1, so what is added to the count is 1 exactly for a new edge.
 use borrow.Author.Needs.{needs}
-use Rattle.diagrams.proofs.Searching.{search-again, search-room, search-joined, search-more}
+use mathlib.Core.Path.{refl}
+use Rattle.diagrams.proofs.Searching.{mark-small, search-reach}
 use Rattle.diagrams.proofs.reach.Statement.{statement}
 use Rattle.diagrams.proofs.reach.Tie as tie
 
-sub-if1 : tie.Need-sub-if1
-sub-if1 c = search needs
+wide-requires : tie.Need-wide-requires
+wide-requires c κs = search needs
 
-element-copy-out-if1 : tie.Need-element-copy-out-if1
-element-copy-out-if1 c = search needs
+sub-i : tie.Need-sub-i
+sub-i c = search needs
 
-returns : tie.Need-returns
-returns c = (c .before .before .pre .0, search-again (c .before .before .pre .0) _ (search needs) (c .if1 .taken))
+slice-read-mark : tie.Need-slice-read-mark
+slice-read-mark c = search needs
 
-sub-marks : tie.Need-sub-marks
-sub-marks c = search needs
-
-element-write-marks : tie.Need-element-write-marks
-element-write-marks c = search needs
-
-cast-list : tie.Need-cast-list
-cast-list c = search needs
+slice-write-marks : tie.Need-slice-write-marks
+slice-write-marks c = search needs
 
 mul-list : tie.Need-mul-list
 mul-list c = search needs
 
-element-write-list : tie.Need-element-write-list
-element-write-list c = search-room (c .before .before .pre .0) _ (search needs) (c .if1 .left)
+slice-write-list : tie.Need-slice-write-list
+slice-write-list c = search needs
+
+sub-result : tie.Need-sub-result
+sub-result c = rw (c .before .wide .ensures) (mark-small (c .before .before .before .before .pre .0) _ (c .before .before .before .before .pre .1))
+
+cast-result : tie.Need-cast-result
+cast-result c = search needs
 
 add-result : tie.Need-add-result
 add-result c = search needs
 
-returns-2 : tie.Need-returns-2
-returns-2 c = (search-more (c .before .before .pre .0) _ (search needs) (c .if1 .left), search-joined (c .before .before .pre .0) _ (search needs) (c .if1 .left))
+same-length : tie.Need-same-length
+same-length c = search needs
+
+same-length-2 : tie.Need-same-length-2
+same-length-2 c = search needs
+
+returns : tie.Need-returns
+returns c = rw (c .before .wide .ensures) (search-reach (c .before .before .before .before .pre .0) _ (c .before .before .before .before .pre .1) _ refl)
 
 pub reach-spec : {M : Type 1} → statement M
 reach-spec =
     tie.close
     (tie.spec
-    sub-if1
-    element-copy-out-if1
-    returns
-    sub-marks
-    element-write-marks
-    cast-list
+    wide-requires
+    sub-i
+    slice-read-mark
+    slice-write-marks
     mul-list
-    element-write-list
+    slice-write-list
+    sub-result
+    cast-result
     add-result
-    returns-2)
+    same-length
+    same-length-2
+    returns)

@@ -1,24 +1,62 @@
 -- `visit` meets its contract: two calls of `reach`.
 use borrow.Author.Needs.{needs}
+use Rattle.diagrams.proofs.Entries.{at-place}
 use Rattle.diagrams.proofs.Searching.{black-small, white-small}
 use Rattle.diagrams.proofs.visit.Statement.{statement}
 use Rattle.diagrams.proofs.visit.Tie as tie
 
-next-requires : tie.Need-next-requires
-next-requires c κs = search needs
+sub-reach : tie.Need-sub-reach
+sub-reach c = search needs
+
+mul-reach : tie.Need-mul-reach
+mul-reach c = search needs
+
+shared-slice-read-reach : tie.Need-shared-slice-read-reach
+shared-slice-read-reach c = search needs
 
 reach-requires : tie.Need-reach-requires
-reach-requires c κs = (c .before .before .before .before .before .pre .1 .1, rw (c .next .ensures) (black-small (c .before .before .before .before .before .pre .0) (c .before .before .before .before .before .args .k) (search needs)))
+reach-requires c κs =
+    let s = c .before .before .before .before .before .before .before in
+    (s .pre .1 .1 .1, black-small (s .pre .0) _ (s .pre .1 .0) (s .args .k) (s .pre .1 .1 .0))
 
-next-requires-2 : tie.Need-next-requires-2
-next-requires-2 c κs = search needs
+sub-reach-2 : tie.Need-sub-reach-2
+sub-reach-2 c = search needs
+
+mul-reach-2 : tie.Need-mul-reach-2
+mul-reach-2 c = search needs
+
+shared-slice-read-reach-2 : tie.Need-shared-slice-read-reach-2
+shared-slice-read-reach-2 c = search needs
 
 reach-requires-2 : tie.Need-reach-requires-2
-reach-requires-2 c κs = (c .before .before .before .reach .ensures .0, rw (c .next2 .ensures) (white-small (c .before .before .before .before .before .before .before .before .before .pre .0) (c .before .before .before .before .before .before .before .before .before .args .k) (search needs)))
+reach-requires-2 c κs =
+    let s = c .before .before .before .before .before .before .before .before .before .before .before .before .before .before .before in
+    (c .before .before .before .before .before .before .before .reach .ensures .0, white-small (s .pre .0) _ (search needs) (s .args .k) (s .pre .1 .1 .0))
+
+same-length : tie.Need-same-length
+same-length c = search needs
+
+same-length-2 : tie.Need-same-length-2
+same-length-2 c = search needs
 
 returns : tie.Need-returns
-returns c = (c .reach2 .ensures .0, cc)
+returns c =
+    let s = c .before .before .before .before .before .before .before .before .before .before .before .before .before .before .before .before .before .before .before .before in
+    let e = s .pre .1 .1 .0 .0 in
+    (c .before .before .before .before .reach2 .ensures .0, cc (at-place (s .args .s0 .now) (s .args .k) e, at-place (s .args .s1 .now) (s .args .k) e))
 
 pub visit-spec : {M : Type 1} → statement M
 visit-spec =
-    tie.close (tie.spec next-requires reach-requires next-requires-2 reach-requires-2 returns)
+    tie.close
+    (tie.spec
+    sub-reach
+    mul-reach
+    shared-slice-read-reach
+    reach-requires
+    sub-reach-2
+    mul-reach-2
+    shared-slice-read-reach-2
+    reach-requires-2
+    same-length
+    same-length-2
+    returns)
