@@ -3,8 +3,8 @@ use mathlib.Core.Path.{_≡_}
 use Prim.Native.Nat.{_-_, _≤_}
 use lib.ListN.{length}
 use borrow.Author.Needs.{needs}
-use Rattle.diagrams_tests.proofs.triples.Statement.{statement}
-use Rattle.diagrams_tests.proofs.triples.Tie as tie
+use Rattle.diagrams_tests.proofs.limits.triples.Statement.{statement}
+use Rattle.diagrams_tests.proofs.limits.triples.Tie as tie
 
 abbrev Inv-loop : tie.InvT-loop
 Inv-loop s0₀ s1₀ k₀ s0 s1 k = (1 ≤ k) × (length s0 ≡ length s0₀) × (length s1 ≡ length s1₀)
