@@ -5,13 +5,13 @@ use crate::answers::put_next;
 use crate::state::Done;
 use crate::state::State;
 use crate::state::with_book;
+use book::Book;
 use lines::Words;
 use lines::is;
 use lines::number;
 use lines::put_byte;
 use lines::put_number;
 use lines::word;
-use sharing::Book;
 
 // A book with one field written, where there is such a field.
 struct Changed {

@@ -10,17 +10,17 @@ use lib.ListN.{length, length-append}
 use Rattle.lists.specs.Lists.{pick, Has}
 use Rattle.lists.specs.Ranges.{Edge}
 use Rattle.lists.proofs.Tests.{eqb-eq, eqb-ne, same?}
-use Rattle.sharing.specs.declared.types.Book.{Book}
-use Rattle.sharing.specs.declared.types.Committing.the-variants.{Committed}
-use Rattle.sharing.specs.Shares.{first, next, committed, holder}
-use Rattle.sharing.specs.Calls.{opened, entered, due, commit-number, commit-answer, release-number, release-book}
-use Rattle.sharing.specs.Holding.{Holds}
-use Rattle.sharing.proofs.Partition.{share-once}
-use Rattle.sharing.proofs.SoundBook.{other-next, other-ticket, other-expiry}
-use Rattle.sharing.proofs.Accepted.{TicketGood, ticket-good}
-use Rattle.sharing.proofs.Ledger.{Ledger, passed-held}
-use Rattle.sharing.proofs.CallLaws.{commit-good, committed-number, take-good}
-use Rattle.sharing.proofs.Tickets.{Gone, holder-nowhere, nowhere-holder, gone-claim, gone-take, gone-release, gone-commit, not-nowhere, not-lapsed, released-good}
+use Rattle.book.specs.declared.types.Book.{Book}
+use Rattle.book.specs.declared.types.Committing.the-variants.{Committed}
+use Rattle.book.specs.Shares.{first, next, committed, holder}
+use Rattle.book.specs.Calls.{opened, entered, due, commit-number, commit-answer, release-number, release-book}
+use Rattle.book.specs.Holding.{Holds}
+use Rattle.book.proofs.Partition.{share-once}
+use Rattle.book.proofs.SoundBook.{other-next, other-ticket, other-expiry}
+use Rattle.book.proofs.Accepted.{TicketGood, ticket-good}
+use Rattle.book.proofs.Ledger.{Ledger, passed-held}
+use Rattle.book.proofs.CallLaws.{commit-good, committed-number, take-good}
+use Rattle.book.proofs.Tickets.{Gone, holder-nowhere, nowhere-holder, gone-claim, gone-take, gone-release, gone-commit, not-nowhere, not-lapsed, released-good}
 use Rattle.demands.specs.FirstList.{Call, claim, take, commit, release, report, after, afterAll, named, commits}
 use Rattle.demands.specs.Corollaries.{Powerless, SameShare, Corollaries, CorollariesHold}
 use Rattle.demands.proofs.FirstList.{ledger, ledger-after, ledger-all}

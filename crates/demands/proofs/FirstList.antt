@@ -21,19 +21,19 @@ use Rattle.counting.specs.Position.{wordAt, position}
 use Rattle.counting.specs.Diagrams.{diagramAt}
 use Rattle.counting.proofs.Positions.{at-once}
 use Rattle.counting.proofs.InPlace.{at-size, at-wordOf, at-characteristic, at-accepted, position-counted, position-alike, position-only}
-use Rattle.sharing.specs.declared.types.Book.{Book}
-use Rattle.sharing.specs.declared.types.Taking.the-variants.{Given}
-use Rattle.sharing.specs.declared.types.Committing.the-variants.{Committed}
-use Rattle.sharing.specs.declared.types.Reporting.the-variants.{Progress}
-use Rattle.sharing.specs.Shares.{first, last, next, ticket, finished, committed, complete, holder}
-use Rattle.sharing.specs.Sound.{sound}
-use Rattle.sharing.specs.Calls.{opened, take-answer, take-number, take-list, commit-number, commit-answer, report-answer}
-use Rattle.sharing.specs.Holding.{Holds}
-use Rattle.sharing.proofs.Partition.{share-of, held-in, share-once}
-use Rattle.sharing.proofs.SoundBook.{facts-sound}
-use Rattle.sharing.proofs.Accepted.{Stands, ticket-unfinished}
-use Rattle.sharing.proofs.Ledger.{Ledger, passed-held, next-uncommitted, ledger-opened, finished-all, all-finished, complete-shares, shares-complete}
-use Rattle.sharing.proofs.CallLaws.{ledger-claim, ledger-take, ledger-commit, ledger-release, commit-good, committed-number, take-good}
+use Rattle.book.specs.declared.types.Book.{Book}
+use Rattle.book.specs.declared.types.Taking.the-variants.{Given}
+use Rattle.book.specs.declared.types.Committing.the-variants.{Committed}
+use Rattle.book.specs.declared.types.Reporting.the-variants.{Progress}
+use Rattle.book.specs.Shares.{first, last, next, ticket, finished, committed, complete, holder}
+use Rattle.book.specs.Sound.{sound}
+use Rattle.book.specs.Calls.{opened, take-answer, take-number, take-list, commit-number, commit-answer, report-answer}
+use Rattle.book.specs.Holding.{Holds}
+use Rattle.book.proofs.Partition.{share-of, held-in, share-once}
+use Rattle.book.proofs.SoundBook.{facts-sound}
+use Rattle.book.proofs.Accepted.{Stands, ticket-unfinished}
+use Rattle.book.proofs.Ledger.{Ledger, passed-held, next-uncommitted, ledger-opened, finished-all, all-finished, complete-shares, shares-complete}
+use Rattle.book.proofs.CallLaws.{ledger-claim, ledger-take, ledger-commit, ledger-release, commit-good, committed-number, take-good}
 use Rattle.demands.specs.Demand2.{Characteristic}
 use Rattle.demands.specs.FirstList.{Call, claim, take, commit, release, report, after, afterAll, named, commits, Finished, IsAt, EachOnce, InPlace, Gives, FirstList, FirstListHolds}
 

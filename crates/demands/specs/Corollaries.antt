@@ -8,13 +8,13 @@ use Prim.Native.Nat.{ℕ, _≤_, _<_}
 use lib.ListN.{length}
 use Rattle.lists.specs.Lists.{Has}
 use Rattle.lists.specs.Ranges.{Edge}
-use Rattle.sharing.specs.declared.types.Book.{Book}
-use Rattle.sharing.specs.declared.types.Taking.the-variants.{Given}
-use Rattle.sharing.specs.declared.types.Committing.the-variants.{Committed}
-use Rattle.sharing.specs.declared.types.Releasing.the-variants.{Released}
-use Rattle.sharing.specs.Shares.{next, ticket, expiry, committed, holder, lapsed, first}
-use Rattle.sharing.specs.Calls.{opened, take-answer, commit-answer, release-answer, release-book}
-use Rattle.sharing.specs.Holding.{Holds}
+use Rattle.book.specs.declared.types.Book.{Book}
+use Rattle.book.specs.declared.types.Taking.the-variants.{Given}
+use Rattle.book.specs.declared.types.Committing.the-variants.{Committed}
+use Rattle.book.specs.declared.types.Releasing.the-variants.{Released}
+use Rattle.book.specs.Shares.{next, ticket, expiry, committed, holder, lapsed, first}
+use Rattle.book.specs.Calls.{opened, take-answer, commit-answer, release-answer, release-book}
+use Rattle.book.specs.Holding.{Holds}
 use Rattle.demands.specs.FirstList.{Call, afterAll, commits}
 
 -- a session with the ticket t can neither commit nor release nor take at that tick

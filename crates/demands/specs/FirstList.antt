@@ -1,6 +1,6 @@
 -- Demand 3, the first list (document 01, "The lists of demand 3"): every list of claims, takes, commits, releases and reports, in any number
 -- and order, with any arguments, accepted or refused, from a newly opened book; each call is given the book that the preceding one left.
--- The answers and the books after are the functions that the operations' own contracts name (crate sharing, Calls).
+-- The answers and the books after are the functions that the operations' own contracts name (crate book, Calls).
 --
 --   Call                   one call with its arguments; the lists of a take are as they were lent
 --   after b call           the book that the call leaves
@@ -9,7 +9,7 @@
 --   commits b calls        the positions named by the accepted commits of the list, in order
 --   Finished n k C j       each position that share j holds stands in C
 --   EachOnce n C           every rooted diagram of size n has, up to root-keeping isomorphism, exactly one diagram at a position of C
--- and from elsewhere: opened, take-answer, ..  (sharing, Calls); Holds n k j p, share j of k holds position p (sharing, Holding);
+-- and from elsewhere: opened, take-answer, ..  (book, Calls); Holds n k j p, share j of k holds position p (book, Holding);
 -- diagramAt n p, wordAt n p (counting); Accepts, RootAlike (diagrams); Characteristic (Demand2); Has, Apart (lists).
 use mathlib.Core.Path.{_≡_}
 use mathlib.Core.Logic.{_↔_}
@@ -27,13 +27,13 @@ use Rattle.labelling.specs.Labelling.{wordOf}
 use Rattle.counting.specs.Listing.{count}
 use Rattle.counting.specs.Position.{wordAt}
 use Rattle.counting.specs.Diagrams.{diagramAt}
-use Rattle.sharing.specs.declared.types.Book.{Book}
-use Rattle.sharing.specs.declared.types.Taking.the-variants.{Given}
-use Rattle.sharing.specs.declared.types.Committing.the-variants.{Committed}
-use Rattle.sharing.specs.declared.types.Reporting.the-variants.{Progress}
-use Rattle.sharing.specs.Shares.{ticket, complete, first}
-use Rattle.sharing.specs.Calls.{opened, claim-book, take-answer, take-book, take-list, commit-number, commit-answer, commit-book, release-book, report-answer}
-use Rattle.sharing.specs.Holding.{Holds}
+use Rattle.book.specs.declared.types.Book.{Book}
+use Rattle.book.specs.declared.types.Taking.the-variants.{Given}
+use Rattle.book.specs.declared.types.Committing.the-variants.{Committed}
+use Rattle.book.specs.declared.types.Reporting.the-variants.{Progress}
+use Rattle.book.specs.Shares.{ticket, complete, first}
+use Rattle.book.specs.Calls.{opened, claim-book, take-answer, take-book, take-list, commit-number, commit-answer, commit-book, release-book, report-answer}
+use Rattle.book.specs.Holding.{Holds}
 use Rattle.demands.specs.Demand2.{Characteristic}
 
 pub data Call : Type 0 where

@@ -1,36 +1,26 @@
 // The share book: it divides the positions of one size among shares, which sessions claim, take diagrams of, commit and release.
 // The caller owns the book and lends it to each operation. A refused call leaves it as it was.
-pub mod books;
-pub mod claims;
-pub mod cores;
-pub mod progress;
-pub mod shares;
-pub mod soundness;
-pub mod standing;
-pub mod tests;
-pub mod types;
-
+pub use book::Book;
+pub use book::ClaimDone;
+pub use book::Claiming;
+pub use book::CommitDone;
+pub use book::Committing;
+pub use book::OpenDone;
+pub use book::Opening;
+pub use book::ReleaseDone;
+pub use book::Releasing;
+pub use book::Reporting;
+pub use book::TakeDone;
+pub use book::Taking;
 use cores::claim_core;
 use cores::commit_core;
 use cores::open_core;
 use cores::release_core;
 use cores::report_core;
 use cores::take_core;
-pub use types::Book;
-pub use types::ClaimDone;
-pub use types::Claiming;
-pub use types::CommitDone;
-pub use types::Committing;
-pub use types::OpenDone;
-pub use types::Opening;
-pub use types::ReleaseDone;
-pub use types::Releasing;
-pub use types::Reporting;
-pub use types::TakeDone;
-pub use types::Taking;
 ghost use mathlib.Core.Path.{_≡_};
-ghost use Rattle.sharing.specs.Calls.{open-answer, open-book, claim-answer, claim-book, commit-answer, commit-book, release-answer, release-book, report-answer};
-ghost use Rattle.sharing.specs.Taken.{Taken};
+ghost use Rattle.book.specs.Calls.{open-answer, open-book, claim-answer, claim-book, commit-answer, commit-book, release-answer, release-book, report-answer};
+ghost use Rattle.book.specs.Taken.{Taken};
 
 // Divides the positions of a size among k shares, each at its first position. Refuses 31; 51, k outside 1..32.
 pub fn open(b: &mut Book, size: u64, k: u64) -> Opening

@@ -7,8 +7,8 @@ use sharing::ReleaseDone;
 use sharing::Reporting;
 use sharing::TakeDone;
 ghost use mathlib.Core.Path.{_≡_};
-ghost use Rattle.sharing.specs.Calls.{open-answer, open-book, claim-answer, claim-book, commit-answer, commit-book, release-answer, release-book, report-answer};
-ghost use Rattle.sharing.specs.Taken.{Taken};
+ghost use Rattle.book.specs.Calls.{open-answer, open-book, claim-answer, claim-book, commit-answer, commit-book, release-answer, release-book, report-answer};
+ghost use Rattle.book.specs.Taken.{Taken};
 
 pub fn open(mut b: Book, size: u64, k: u64) -> OpenDone
     ensures { λ r. ⌜ (r .answer ≡ open-answer size k) × (r .book ≡ open-book b size k) ⌝ }

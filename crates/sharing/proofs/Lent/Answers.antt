@@ -5,26 +5,26 @@ use mathlib.Core.List.{[], _∷_}
 use denote.Struct.Laws as LL
 use denote.Enum.Laws as EL
 use Rattle.sharing.proofs.Lent.Shape.{Shape, Made}
-use Rattle.sharing.proofs.types.Opening as Opening
-use Rattle.sharing.proofs.types.Opening.Laws as OpeningLaws
-use Rattle.sharing.proofs.types.OpenDone as OpenDone
-use Rattle.sharing.proofs.types.OpenDone.Laws as OpenDoneLaws
-use Rattle.sharing.proofs.types.Claiming as Claiming
-use Rattle.sharing.proofs.types.Claiming.Laws as ClaimingLaws
-use Rattle.sharing.proofs.types.ClaimDone as ClaimDone
-use Rattle.sharing.proofs.types.ClaimDone.Laws as ClaimDoneLaws
-use Rattle.sharing.proofs.types.Taking as Taking
-use Rattle.sharing.proofs.types.Taking.Laws as TakingLaws
-use Rattle.sharing.proofs.types.TakeDone as TakeDone
-use Rattle.sharing.proofs.types.TakeDone.Laws as TakeDoneLaws
-use Rattle.sharing.proofs.types.Committing as Committing
-use Rattle.sharing.proofs.types.Committing.Laws as CommittingLaws
-use Rattle.sharing.proofs.types.CommitDone as CommitDone
-use Rattle.sharing.proofs.types.CommitDone.Laws as CommitDoneLaws
-use Rattle.sharing.proofs.types.Releasing as Releasing
-use Rattle.sharing.proofs.types.Releasing.Laws as ReleasingLaws
-use Rattle.sharing.proofs.types.ReleaseDone as ReleaseDone
-use Rattle.sharing.proofs.types.ReleaseDone.Laws as ReleaseDoneLaws
+use Rattle.book.proofs.types.Opening as Opening
+use Rattle.book.proofs.types.Opening.Laws as OpeningLaws
+use Rattle.book.proofs.types.OpenDone as OpenDone
+use Rattle.book.proofs.types.OpenDone.Laws as OpenDoneLaws
+use Rattle.book.proofs.types.Claiming as Claiming
+use Rattle.book.proofs.types.Claiming.Laws as ClaimingLaws
+use Rattle.book.proofs.types.ClaimDone as ClaimDone
+use Rattle.book.proofs.types.ClaimDone.Laws as ClaimDoneLaws
+use Rattle.book.proofs.types.Taking as Taking
+use Rattle.book.proofs.types.Taking.Laws as TakingLaws
+use Rattle.book.proofs.types.TakeDone as TakeDone
+use Rattle.book.proofs.types.TakeDone.Laws as TakeDoneLaws
+use Rattle.book.proofs.types.Committing as Committing
+use Rattle.book.proofs.types.Committing.Laws as CommittingLaws
+use Rattle.book.proofs.types.CommitDone as CommitDone
+use Rattle.book.proofs.types.CommitDone.Laws as CommitDoneLaws
+use Rattle.book.proofs.types.Releasing as Releasing
+use Rattle.book.proofs.types.Releasing.Laws as ReleasingLaws
+use Rattle.book.proofs.types.ReleaseDone as ReleaseDone
+use Rattle.book.proofs.types.ReleaseDone.Laws as ReleaseDoneLaws
 
 abbrev pub open-shape : Shape
 open-shape = record {

@@ -39,9 +39,9 @@ use denote.Triple.Spec.{Meets, tripleOf}
 use denote.Triple.Clauses.{Clauses, Lasts, lasts, atExit, ensured, closing}
 use denote.Triple.Walked.{Stays, stay-none, gave-slice, walkOf, AllGo, goes-none, goes-gave-slice, Walks, ends-at, walked, walk-meets}
 use denote.Exit.{yes}
-use Rattle.sharing.specs.declared.types.Book.{Book}
-use Rattle.sharing.proofs.types.Book as B
-use Rattle.sharing.proofs.types.Book.Laws as B′
+use Rattle.book.specs.declared.types.Book.{Book}
+use Rattle.book.proofs.types.Book as B
+use Rattle.book.proofs.types.Book.Laws as B′
 use Rattle.sharing.proofs.Lent.Shape.{Shape, Made, bval, resTy}
 use Rattle.sharing.proofs.Lent.Lend.{lies-in, lies-out}
 use Rattle.sharing.proofs.Lent.Take.{take-core-ended, take-ended}

@@ -14,9 +14,9 @@ use types.Kit.{Given}
 use denote.RattleType.{RattleType}
 use denote.Laws.{Is, Makes}
 use denote.Struct.Laws as LL
-use Rattle.sharing.specs.declared.types.Book.{Book}
-use Rattle.sharing.proofs.types.Book as B
-use Rattle.sharing.proofs.types.Book.Laws as B′
+use Rattle.book.specs.declared.types.Book.{Book}
+use Rattle.book.proofs.types.Book as B
+use Rattle.book.proofs.types.Book.Laws as B′
 
 -- a book's machine value
 abbrev pub bval : Book → Val

@@ -40,9 +40,9 @@ use denote.Triple.Spec.{Meets, tripleOf}
 use denote.Triple.Clauses.{Clauses, Ended, Lasts, lasts, atExit, ensured, closing}
 use denote.Triple.Walked.{Stays, stay-ref, stay-none, gave-slice, walkOf, AllGo, goes-none, goes-ref, goes-gave-slice, Walks, ends-at, walked, walk-meets}
 use denote.Exit.{yes}
-use Rattle.sharing.specs.declared.types.Book.{Book}
-use Rattle.sharing.proofs.types.Book as B
-use Rattle.sharing.proofs.types.Book.Laws as B′
+use Rattle.book.specs.declared.types.Book.{Book}
+use Rattle.book.proofs.types.Book as B
+use Rattle.book.proofs.types.Book.Laws as B′
 use Rattle.sharing.proofs.Lent.Shape.{Shape, bval, resTy}
 
 abbrev pub take-code : Ty → Ty → Name → Fn

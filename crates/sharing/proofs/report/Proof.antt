@@ -15,14 +15,14 @@ use denote.Laws.{Is}
 use denote.Enum.Laws as EL
 use denote.Triple.Spec.{tripleOf}
 use denote.Triple.Table.{entered, cited}
-use Rattle.sharing.specs.declared.types.Reporting.{Reporting}
+use Rattle.book.specs.declared.types.Reporting.{Reporting}
 use Rattle.sharing.proofs.Lent.Look.{Hands, look-meets}
-use Rattle.sharing.proofs.types.Reporting as R
-use Rattle.sharing.proofs.types.Reporting.Laws as R′
-use Rattle.sharing.proofs.cores.report_core as core
-use Rattle.sharing.proofs.cores.report_core.Symbol as core-def
-use Rattle.sharing.proofs.cores.report_core.Symbol.{name as #core}
-use Rattle.sharing.proofs.cores.report_core.Met as core-thm
+use Rattle.book.proofs.types.Reporting as R
+use Rattle.book.proofs.types.Reporting.Laws as R′
+use Rattle.cores.proofs.report_core as core
+use Rattle.cores.proofs.report_core.Symbol as core-def
+use Rattle.cores.proofs.report_core.Symbol.{name as #core}
+use Rattle.cores.proofs.report_core.Met as core-thm
 use Rattle.sharing.proofs.report.Key.{name as #thin}
 use Rattle.sharing.proofs.report as thin
 use Rattle.sharing.proofs.report.Statement as stated
@@ -41,4 +41,4 @@ report-spec 𝓤 H 𝓜 𝓖 𝓡 =
     entered 𝓤 H (tripleOf 𝓤 H (𝓖 .A) thin.signature (thin.spec 𝓤 H (𝓖 .A) (𝓜 .mem) (𝓡 .run)))
     (tables 𝓤 H 𝓜 𝓡 code.env .C) (tables 𝓤 H 𝓜 𝓡 code.env .Λ) #thin code.function (code.unfolded 𝓤 H 𝓜 𝓡)
     (look-meets [] R.the-row R′.mir 𝓤 H (𝓖 .A) (givenOf 𝓤 H 𝓜 𝓖) (typed 𝓤 H (𝓖 .A) (givenOf 𝓤 H 𝓜 𝓖)) (core.clauses 𝓤 H (𝓖 .A) (𝓜 .mem) (𝓡 .run)) (thin.clauses 𝓤 H (𝓖 .A) (𝓜 .mem) (𝓡 .run)) (hands 𝓤 H (𝓖 .A) (givenOf 𝓤 H 𝓜 𝓖) (𝓜 .mem) (𝓡 .run)) #core (tablesOf 𝓤 H 𝓜 (tables 𝓤 H 𝓜 𝓡 code.env))
-    (cited 𝓤 H (tripleOf 𝓤 H (𝓖 .A) core.signature (core.spec 𝓤 H (𝓖 .A) (𝓜 .mem) (𝓡 .run))) 𝓜 𝓡 code.env #core core-def.routine code.calls-sharing·cores·report-core (core-thm.met 𝓤 H 𝓜 𝓖 𝓡)))
+    (cited 𝓤 H (tripleOf 𝓤 H (𝓖 .A) core.signature (core.spec 𝓤 H (𝓖 .A) (𝓜 .mem) (𝓡 .run))) 𝓜 𝓡 code.env #core core-def.routine code.calls-cores·report-core (core-thm.met 𝓤 H 𝓜 𝓖 𝓡)))

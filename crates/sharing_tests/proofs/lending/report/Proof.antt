@@ -15,10 +15,10 @@ use denote.Laws.{Is}
 use denote.Enum.Laws as EL
 use denote.Triple.Spec.{tripleOf}
 use denote.Triple.Table.{entered, cited}
-use Rattle.sharing.specs.declared.types.Reporting.{Reporting}
+use Rattle.book.specs.declared.types.Reporting.{Reporting}
 use Rattle.sharing.proofs.Lent.Show.{Hands, show-meets}
-use Rattle.sharing.proofs.types.Reporting as R
-use Rattle.sharing.proofs.types.Reporting.Laws as R′
+use Rattle.book.proofs.types.Reporting as R
+use Rattle.book.proofs.types.Reporting.Laws as R′
 use Rattle.sharing.proofs.report as core
 use Rattle.sharing.proofs.report.Symbol as core-def
 use Rattle.sharing.proofs.report.Symbol.{name as #core}

@@ -1,0 +1,121 @@
+use borrow.Author.Needs.{needs}
+use mathlib.Core.Path.{_≡_, refl, sym, _∙_}
+use mathlib.Core.Logic.{_≢_}
+use mathlib.Core.Bool.{true, false}
+use Prim.Native.Nat.{ℕ, _^_, _≤_, _<_}
+use native.Mathlib.Omega.{arith}
+use lib.Dec.{leb, ltb}
+use borrow.Author.Tests.{not-true, not-false}
+use Rattle.lists.specs.Ranges.{Edge}
+use Rattle.lists.proofs.Tests.{eqb-eq, eqb-ne, le-true, le-false}
+use Rattle.book.specs.declared.types.Book.{Book}
+use Rattle.book.specs.Shares.{expiry, holder, lapsed}
+use Rattle.book.specs.Sound.{both, sound}
+use Rattle.book.specs.Calls.{tick-in, ticket-number}
+use Rattle.book.proofs.SoundBook.{sound-facts}
+use Rattle.book.proofs.Accepted.{holder-stands}
+use Rattle.asking.proofs.standing.ask.Statement.{statement}
+use Rattle.asking.proofs.standing.ask.Tie as tie
+use Rattle.asking.proofs.standing.ask.Reads as reads
+use Rattle.asking.proofs.standing.ask.Lts as lts
+use Rattle.soundness.proofs.shares.entry.Reads as entry-reads
+use Rattle.soundness.proofs.sound.Reads as sound-reads
+use Rattle.asking.proofs.standing.holder.Reads as holder-reads
+use Rattle.asking.proofs.standing.tick_in.Reads as tick-in-reads
+
+module _ (b : Book) (tick t : ℕ) where
+  unsound : sound b ≡ false → (rest : ℕ) → ticket-number b tick t rest ≡ 50
+  unfolding ticket-number
+  unsound s rest = rw s
+
+  module _ (s : sound b ≡ true) where
+    untimely : both (leb (b .latest) tick) (ltb tick (2 ^ 48)) ≡ false → (rest : ℕ) → ticket-number b tick t rest ≡ 52
+    unfolding ticket-number tick-in
+    untimely e rest = rw (s, e)
+
+    module _ (e : both (leb (b .latest) tick) (ltb tick (2 ^ 48)) ≡ true) where
+      nowhere : holder b t ≡ 0 → (rest : ℕ) → ticket-number b tick t rest ≡ 58
+      unfolding ticket-number tick-in
+      nowhere h rest = rw (s, e, eqb-eq _ _ h)
+
+      gone : holder b t ≢ 0 → expiry b (holder b t) ≤ tick → (rest : ℕ) → ticket-number b tick t rest ≡ 59
+      unfolding ticket-number tick-in lapsed
+      gone h l rest = rw (s, e, eqb-ne _ _ h, le-true _ _ l)
+
+      stands : holder b t ≢ 0 → tick < expiry b (holder b t) → (rest : ℕ) → ticket-number b tick t rest ≡ rest
+      unfolding ticket-number tick-in lapsed
+      stands h l rest = rw (s, e, eqb-ne _ _ h, le-false _ _ l)
+
+is-sound : (c : tie.Else1) → sound (c .before .before .args .t1) ≡ true
+is-sound c = sym (c .before .sound .ensures) ∙ not-false _ (c .if1 .left)
+
+in-time : (c : tie.Else2) → both (leb (c .before .before .before .before .args .t1 .latest) (c .before .before .before .before .args .tick)) (ltb (c .before .before .before .before .args .tick) (2 ^ 48)) ≡ true
+in-time c = sym (c .before .tick-in .ensures) ∙ not-false _ (c .if2 .left)
+
+somewhere : (c : tie.Else3) → holder (c .before .before .before .before .before .before .args .t1) (c .before .before .before .before .before .before .args .ticket) ≢ 0
+somewhere c = rw (c .before .holder .ensures) at (c .if3 .left)
+
+held : (c : tie.Else3) → Edge 32 (c .before .holder .result)
+held c =
+    let a = c .before .before .before .before .before .before .args in
+    let q = holder-stands (a .t1) (a .ticket) (somewhere c) .share-in in
+    let k = sound-facts (a .t1) (is-sound (c .before .before .before .before)) .shares-in in
+    rw (c .before .holder .ensures) (omega arith)
+
+-- src/standing.rt:48:9
+sound-requires : tie.Need-sound-requires
+sound-requires c κs = search needs
+
+-- src/standing.rt:49:9
+returns : tie.Need-returns
+returns c = let a = c .before .before .args in (λ z. omega arith, unsound (a .t1) (a .tick) (a .ticket) (sym (c .before .sound .ensures) ∙ not-true _ (c .if1 .taken)))
+
+-- src/standing.rt:51:9
+tick-in-requires : tie.Need-tick-in-requires
+tick-in-requires c κs = search needs
+
+-- src/standing.rt:52:9
+returns-2 : tie.Need-returns-2
+returns-2 c =
+    let a = c .before .before .before .before .args in
+    (λ z. omega arith, untimely (a .t1) (a .tick) (a .ticket) (is-sound (c .before .before)) (sym (c .before .tick-in .ensures) ∙ not-true _ (c .if2 .taken)))
+
+-- src/standing.rt:54:9
+holder-requires : tie.Need-holder-requires
+holder-requires c κs = sound-facts (c .before .before .before .before .args .t1) (is-sound (c .before .before)) .shares-in .1
+
+-- src/standing.rt:56:9
+returns-3 : tie.Need-returns-3
+returns-3 c =
+    let a = c .before .before .before .before .before .before .args in
+    (λ z. omega arith, nowhere (a .t1) (a .tick) (a .ticket) (is-sound (c .before .before .before .before)) (in-time (c .before .before)) (sym (c .before .holder .ensures) ∙ c .if3 .taken))
+
+-- src/standing.rt:58:8
+entry-requires : tie.Need-entry-requires
+entry-requires c κs = held (c .before .before)
+
+-- src/standing.rt:59:9
+returns-4 : tie.Need-returns-4
+returns-4 c =
+    let a = c .before .before .before .before .before .before .before .before .before .before .args in
+    (λ z. omega arith, gone (a .t1) (a .tick) (a .ticket) (is-sound (c .before .before .before .before .before .before .before .before)) (in-time (c .before .before .before .before .before .before)) (somewhere (c .before .before .before .before)) (rw (c .before .entry .ensures, c .before .before .before .before .before .holder .ensures) at (c .if4 .taken)))
+
+-- src/standing.rt:45:1
+returns-5 : tie.Need-returns-5
+returns-5 c =
+    let a = c .before .before .before .before .before .before .before .before .before .before .args in
+    (c .before .before .before .before .before .holder .ensures, stands (a .t1) (a .tick) (a .ticket) (is-sound (c .before .before .before .before .before .before .before .before)) (in-time (c .before .before .before .before .before .before)) (somewhere (c .before .before .before .before)) (rw (c .before .entry .ensures, c .before .before .before .before .before .holder .ensures) at (c .if4 .left)))
+
+pub ask-spec : {M : Type 1} → statement M
+ask-spec =
+    tie.close
+    (tie.spec
+    sound-requires
+    returns
+    tick-in-requires
+    returns-2
+    holder-requires
+    returns-3
+    entry-requires
+    returns-4
+    returns-5)

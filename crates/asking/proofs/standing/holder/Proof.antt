@@ -1,0 +1,90 @@
+use mathlib.Core.Path.{_≡_, refl, sym, _∙_}
+use mathlib.Core.Logic.{_≢_}
+use Prim.Native.Nat.{ℕ, zero, suc, _-_, _≤_, _<_}
+use native.Mathlib.Omega.{arith}
+use lib.ListN.{getD}
+use Rattle.lists.proofs.Tests.{eqb-eq, eqb-ne}
+use Rattle.book.specs.declared.types.Book.{Book}
+use Rattle.book.specs.Shares.{standing, holder}
+use Rattle.asking.proofs.standing.holder.Statement.{statement}
+use Rattle.asking.proofs.standing.holder.Tie as tie
+use Rattle.asking.proofs.standing.holder.Reads as reads
+use Rattle.asking.proofs.standing.holder.Lts as lts
+
+-- the ticket stands at share j, and at none of the shares after it
+found : (b : Book) (t j : ℕ) → t ≢ 0 → 0 < j → getD (b .ticket) (j - 1) 0 ≡ t → standing b t j ≡ standing b t (b .shares) → j ≡ holder b t
+unfolding holder
+found b t zero n h e q = absurd (omega arith)
+found b t (suc j) n h e q = let d : suc j - 1 ≡ j = omega arith in rw (eqb-ne _ _ n) (rw (eqb-eq _ _ (rw d at e)) at q)
+
+-- it does not stand there
+further : (b : Book) (t j : ℕ) → 0 < j → getD (b .ticket) (j - 1) 0 ≢ t → standing b t (j - 1) ≡ standing b t j
+further b t zero h n = absurd (omega arith)
+further b t (suc j) h n = let d : suc j - 1 ≡ j = omega arith in rw (d, eqb-ne _ _ (rw d at n))
+
+nowhere : (b : Book) (t j : ℕ) → t ≢ 0 → j ≤ 0 → standing b t j ≡ standing b t (b .shares) → 0 ≡ holder b t
+unfolding holder
+nowhere b t j n h q = let d : j ≡ 0 = omega arith in rw (eqb-ne _ _ n) (rw d at q)
+
+abbrev Inv-loop : tie.InvT-loop
+Inv-loop ticket b j₀ j = (j ≤ b .shares) × (standing b ticket j ≡ standing b ticket (b .shares))
+
+abbrev μ-loop : tie.MeasureT-loop
+μ-loop ticket b j₀ j = j
+
+-- src/standing.rt:32:9
+returns : tie.Need-returns Inv-loop μ-loop
+returns c = unfold holder in (rw (eqb-eq (c .before .args .ticket) 0 (c .if1 .taken)))
+
+-- src/standing.rt:35:5
+loop-holds : tie.Need-loop-holds Inv-loop μ-loop
+loop-holds c = (omega arith, refl)
+
+-- src/standing.rt:36:18
+sub-i : tie.Need-sub-i Inv-loop μ-loop
+sub-i c = omega arith
+
+-- src/standing.rt:37:12
+mul-if2 : tie.Need-mul-if2 Inv-loop μ-loop
+mul-if2 c = omega arith
+
+-- src/standing.rt:37:12
+element-copy-out-if2 : tie.Need-element-copy-out-if2 Inv-loop μ-loop
+element-copy-out-if2 c = omega arith
+
+-- src/standing.rt:38:13
+returns-2 : tie.Need-returns-2 Inv-loop μ-loop
+returns-2 c = let a = c .before .before .before .before .before .args in found (a .t1) (a .ticket) (c .before .before .before .loop .j) (c .before .before .before .before .if1 .left) (c .before .before .loop-test .taken) (c .if2 .taken) (c .before .before .before .loop .inv .1)
+
+-- src/standing.rt:40:9
+sub-j : tie.Need-sub-j Inv-loop μ-loop
+sub-j c = omega arith
+
+-- src/standing.rt:35:5
+loop-less : tie.Need-loop-less Inv-loop μ-loop
+loop-less c = omega arith
+
+-- src/standing.rt:35:5
+loop-again : tie.Need-loop-again Inv-loop μ-loop
+loop-again c = let a = c .before .before .before .before .before .args in (omega arith, further (a .t1) (a .ticket) (c .before .before .before .loop .j) (c .before .before .loop-test .taken) (c .if2 .left) ∙ c .before .before .before .loop .inv .1)
+
+-- src/standing.rt:27:1
+returns-3 : tie.Need-returns-3 Inv-loop μ-loop
+returns-3 c = let a = c .before .before .before .args in nowhere (a .t1) (a .ticket) (c .before .loop .j) (c .before .before .if1 .left) (c .loop-test .left) (c .before .loop .inv .1)
+
+pub holder-spec : {M : Type 1} → statement M
+holder-spec =
+    tie.close
+    (tie.spec
+    Inv-loop
+    μ-loop
+    returns
+    loop-holds
+    sub-i
+    mul-if2
+    element-copy-out-if2
+    returns-2
+    sub-j
+    loop-less
+    loop-again
+    returns-3)

@@ -1,0 +1,5 @@
+// What the operations ask of a sound share book before they alter it: where a ticket stands, what a claim is refused for, and how far the
+// shares have come.
+pub mod claims;
+pub mod progress;
+pub mod standing;

@@ -1,0 +1,170 @@
+-- What each operation of the share book answers and the book that it leaves, as functions of the book and the arguments (document 01,
+-- "Share book"). A `..-number` is 01's number of the refusal, 0 where the call is accepted; a refused call leaves the book as it was.
+use mathlib.Core.Path.{_≡_}
+use mathlib.Core.Bool.{Bool, true, false}
+use mathlib.Core.List.{List, []}
+use Prim.Native.Nat.{ℕ, zero, suc, _+_, _^_}
+use lib.Dec.{eqb, leb, ltb}
+use lib.ListN.{length, replicate}
+use Rattle.lists.specs.Lists.{pick, at, put, listed}
+use Rattle.words.specs.Outputs.{over}
+use Rattle.words.specs.Word.{Pair}
+use Rattle.counting.specs.Position.{wordAt}
+use Rattle.counting.specs.Diagrams.{diagramAt}
+use Rattle.book.specs.declared.types.Book.{Book}
+use Rattle.book.specs.declared.types.Opening.{Opening}
+use Rattle.book.specs.declared.types.Opening.the-variants as opening
+use Rattle.book.specs.declared.types.Claiming.{Claiming}
+use Rattle.book.specs.declared.types.Claiming.the-variants as claiming
+use Rattle.book.specs.declared.types.Taking.{Taking}
+use Rattle.book.specs.declared.types.Taking.the-variants as taking
+use Rattle.book.specs.declared.types.Committing.{Committing}
+use Rattle.book.specs.declared.types.Committing.the-variants as committing
+use Rattle.book.specs.declared.types.Releasing.{Releasing}
+use Rattle.book.specs.declared.types.Releasing.the-variants as releasing
+use Rattle.book.specs.declared.types.Reporting.{Reporting}
+use Rattle.book.specs.declared.types.Reporting.the-variants as reporting
+use Rattle.book.specs.Shares.{first, next, finished, committed, complete, holder, lapsed}
+use Rattle.book.specs.Sound.{both, either, among, sound}
+
+-- refusal k unless the test holds; the tests are asked in the order in which they stand
+abbrev pub unless : Bool → ℕ → ℕ → ℕ
+unless t k rest = pick t rest k
+
+abbrev pub not : Bool → Bool
+not b = pick b false true
+
+-- ---- open: 31, 51
+
+unfoldable pub open-number : ℕ → ℕ → ℕ
+open-number n k = unless (among 50 n) 31 (unless (among 32 k) 51 0)
+
+-- shares 1..k of size n begin at their first positions, and nobody holds a ticket
+unfoldable pub opened : ℕ → ℕ → Book
+opened n k = record {
+  size = n;
+  shares = k;
+  latest = 0;
+  issued = 0;
+  next = listed (λ j. pick (leb j k) (first n k j) 0) 32;
+  ticket = replicate 32 0;
+  expiry = replicate 32 0;
+}
+
+unfoldable pub open-answer : ℕ → ℕ → Opening
+open-answer n k = pick (eqb (open-number n k) 0) opening.Opened (opening.Refused (open-number n k))
+
+unfoldable pub open-book : Book → ℕ → ℕ → Book
+open-book b n k = pick (eqb (open-number n k) 0) (opened n k) b
+
+-- ---- the book with other entries at share j, and the tick kept as the latest
+
+unfoldable pub entered : Book → ℕ → ℕ → ℕ → ℕ → ℕ → ℕ → Book
+entered b tick issues j p t e = record {
+  size = b .size;
+  shares = b .shares;
+  latest = tick;
+  issued = issues;
+  next = put (b .next) j p;
+  ticket = put (b .ticket) j t;
+  expiry = put (b .expiry) j e;
+}
+
+-- the book with that tick as the latest
+unfoldable pub ticked : Book → ℕ → Book
+ticked b tick = record { size = b .size; shares = b .shares; latest = tick; issued = b .issued; next = b .next; ticket = b .ticket; expiry = b .expiry }
+
+-- 52: the tick is below the latest, or 2^48 and above
+unfoldable pub tick-in : Book → ℕ → Bool
+tick-in b tick = both (leb (b .latest) tick) (ltb tick (2 ^ 48))
+
+-- ---- claim: 50, 52, 53 share outside 1..k, 54 length outside 1..65,535, 55 finished, 56 held and not lapsed, 57 all tickets issued
+
+-- a ticket stands at share j and has not lapsed
+unfoldable pub held : Book → ℕ → ℕ → Bool
+held b j tick = both (not (eqb (at (b .ticket) j) 0)) (not (lapsed b j tick))
+
+unfoldable pub claim-number : Book → ℕ → ℕ → ℕ → ℕ
+claim-number b tick j len =
+    unless (sound b) 50
+    (unless (tick-in b tick) 52
+    (unless (among (b .shares) j) 53
+    (unless (among 65535 len) 54
+    (unless (not (finished b j)) 55
+    (unless (not (held b j tick)) 56
+    (unless (ltb (b .issued) 65535) 57 0))))))
+
+unfoldable pub claim-answer : Book → ℕ → ℕ → ℕ → Claiming
+claim-answer b tick j len = pick (eqb (claim-number b tick j len) 0) (claiming.Ticket (suc (b .issued))) (claiming.Refused (claim-number b tick j len))
+
+unfoldable pub claim-book : Book → ℕ → ℕ → ℕ → Book
+claim-book b tick j len = pick (eqb (claim-number b tick j len) 0) (entered b tick (suc (b .issued)) j (next b j) (suc (b .issued)) (tick + len)) b
+
+-- ---- what take, commit and release ask first: 50, 52, 58 the ticket stands at no share, 59 it has lapsed
+
+unfoldable pub ticket-number : Book → ℕ → ℕ → ℕ → ℕ
+ticket-number b tick t rest =
+    unless (sound b) 50
+    (unless (tick-in b tick) 52
+    (unless (not (eqb (holder b t) 0)) 58
+    (unless (not (lapsed b (holder b t) tick)) 59 rest)))
+
+-- ---- take: then 9, the output lists of lengths l0, l1 and lw being short
+
+-- the position that a take with the ticket t gives
+unfoldable pub due : Book → ℕ → ℕ
+due b t = next b (holder b t)
+
+-- n, n and n + 1 for the word
+unfoldable pub room : ℕ → ℕ → ℕ → ℕ → Bool
+room n l0 l1 lw = both (leb n l0) (both (leb n l1) (leb (suc n) lw))
+
+unfoldable pub take-number : Book → ℕ → ℕ → ℕ → ℕ → ℕ → ℕ
+take-number b tick t l0 l1 lw = ticket-number b tick t (unless (room (b .size) l0 l1 lw) 9 0)
+
+unfoldable pub take-answer : Book → ℕ → ℕ → ℕ → ℕ → ℕ → Taking
+take-answer b tick t l0 l1 lw =
+    pick (eqb (take-number b tick t l0 l1 lw) 0)
+    (taking.Given (holder b t) (due b t) (length (wordAt (b .size) (due b t))))
+    (taking.Refused (take-number b tick t l0 l1 lw))
+
+unfoldable pub take-book : Book → ℕ → ℕ → ℕ → ℕ → ℕ → Book
+take-book b tick t l0 l1 lw = pick (eqb (take-number b tick t l0 l1 lw) 0) (ticked b tick) b
+
+-- the three lists after a take, from the lists before it
+unfoldable pub take-list : Book → ℕ → ℕ → ℕ → ℕ → ℕ → List ℕ → List ℕ → List ℕ
+take-list b tick t l0 l1 lw x a = pick (eqb (take-number b tick t l0 l1 lw) 0) (over x a) a
+
+-- ---- commit: then 60, not that share's next position
+
+unfoldable pub commit-number : Book → ℕ → ℕ → ℕ → ℕ
+commit-number b tick t p = ticket-number b tick t (unless (eqb p (due b t)) 60 0)
+
+unfoldable pub commit-answer : Book → ℕ → ℕ → ℕ → Committing
+commit-answer b tick t p = pick (eqb (commit-number b tick t p) 0) committing.Committed (committing.Refused (commit-number b tick t p))
+
+-- the share moves on by one; past its last position its ticket ends
+unfoldable pub moved : Book → ℕ → ℕ → Book
+moved b tick j =
+    pick (finished (entered b tick (b .issued) j (suc (next b j)) (at (b .ticket) j) (at (b .expiry) j)) j)
+    (entered b tick (b .issued) j (suc (next b j)) 0 0)
+    (entered b tick (b .issued) j (suc (next b j)) (at (b .ticket) j) (at (b .expiry) j))
+
+unfoldable pub commit-book : Book → ℕ → ℕ → ℕ → Book
+commit-book b tick t p = pick (eqb (commit-number b tick t p) 0) (moved b tick (holder b t)) b
+
+-- ---- release
+
+unfoldable pub release-number : Book → ℕ → ℕ → ℕ
+release-number b tick t = ticket-number b tick t 0
+
+unfoldable pub release-answer : Book → ℕ → ℕ → Releasing
+release-answer b tick t = pick (eqb (release-number b tick t) 0) releasing.Released (releasing.Refused (release-number b tick t))
+
+unfoldable pub release-book : Book → ℕ → ℕ → Book
+release-book b tick t = pick (eqb (release-number b tick t) 0) (entered b tick (b .issued) (holder b t) (due b t) 0 0) b
+
+-- ---- report: 50; it alters nothing
+
+unfoldable pub report-answer : Book → Reporting
+report-answer b = pick (sound b) (reporting.Progress (committed b) (complete b)) (reporting.Refused 50)

@@ -1,0 +1,5 @@
+pub mod Shares
+pub mod Holding
+pub mod Sound
+pub mod Calls
+pub mod Taken
