@@ -9,7 +9,7 @@ use Rattle.counting.specs.Position.{wordAt}
 use Rattle.words.specs.Outputs.{Short}
 use Rattle.running.specs.declared.Run.{Run}
 use Rattle.running.specs.Promises.{Stands, Over, given, finished}
-use Rattle.kaldvemir.specs.Layout.{run-of, run-numbers}
+use Rattle.layout.specs.Layout.{run-of, run-numbers}
 
 given-size : (n p : ℕ) → given n p .size ≡ n
 given-size n zero = refl

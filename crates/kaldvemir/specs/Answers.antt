@@ -33,18 +33,18 @@ use Rattle.running.specs.declared.Beginning.{Beginning}
 use Rattle.running.specs.declared.Beginning.the-variants as beginning
 use Rattle.running.specs.declared.Stepping.{Stepping}
 use Rattle.running.specs.declared.Stepping.the-variants as stepping
-use Rattle.sharing.specs.declared.types.Opening.{Opening}
-use Rattle.sharing.specs.declared.types.Opening.the-variants as opening
-use Rattle.sharing.specs.declared.types.Claiming.{Claiming}
-use Rattle.sharing.specs.declared.types.Claiming.the-variants as claiming
-use Rattle.sharing.specs.declared.types.Taking.{Taking}
-use Rattle.sharing.specs.declared.types.Taking.the-variants as taking
-use Rattle.sharing.specs.declared.types.Committing.{Committing}
-use Rattle.sharing.specs.declared.types.Committing.the-variants as committing
-use Rattle.sharing.specs.declared.types.Releasing.{Releasing}
-use Rattle.sharing.specs.declared.types.Releasing.the-variants as releasing
-use Rattle.sharing.specs.declared.types.Reporting.{Reporting}
-use Rattle.sharing.specs.declared.types.Reporting.the-variants as reporting
+use Rattle.book.specs.declared.types.Opening.{Opening}
+use Rattle.book.specs.declared.types.Opening.the-variants as opening
+use Rattle.book.specs.declared.types.Claiming.{Claiming}
+use Rattle.book.specs.declared.types.Claiming.the-variants as claiming
+use Rattle.book.specs.declared.types.Taking.{Taking}
+use Rattle.book.specs.declared.types.Taking.the-variants as taking
+use Rattle.book.specs.declared.types.Committing.{Committing}
+use Rattle.book.specs.declared.types.Committing.the-variants as committing
+use Rattle.book.specs.declared.types.Releasing.{Releasing}
+use Rattle.book.specs.declared.types.Releasing.the-variants as releasing
+use Rattle.book.specs.declared.types.Reporting.{Reporting}
+use Rattle.book.specs.declared.types.Reporting.the-variants as reporting
 
 -- ---- given diagrams
 

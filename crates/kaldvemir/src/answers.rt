@@ -1,31 +1,25 @@
 // The numbers and values of the answers.
+use book::Claiming;
+use book::Committing;
+use book::Opening;
+use book::Releasing;
+use book::Reporting;
+use book::Taking;
 use canonical::Comparison;
 use canonical::KeepMark;
 use canonical::Relabelling;
 use canonical::Symmetry;
 use diagrams::Verdict;
 use invariants::Measured;
+use layout::long;
 use positions::Entry;
 use positions::Place;
 use positions::Total;
 use reading::Reading;
-use sharing::Claiming;
-use sharing::Committing;
-use sharing::Opening;
-use sharing::Releasing;
-use sharing::Reporting;
-use sharing::Taking;
 use walking::Walked;
 use words::Lettered;
 ghost use mathlib.Core.Path.{_≡_};
 ghost use Rattle.kaldvemir.specs.Answers as answers;
-
-// A 16-bit number as a 64-bit one.
-pub fn long(x: u16) -> u64
-    ensures { λ r. ⌜ r ≡ x ⌝ }
-{
-    x as u64
-}
 
 pub fn check_number(a: Verdict) -> u16
     ensures { λ r. ⌜ r ≡ answers.check-number a ⌝ }

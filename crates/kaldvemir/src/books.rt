@@ -1,4 +1,10 @@
 // The share book. It lies with the caller as 100 numbers.
+use cores::claim_core;
+use cores::commit_core;
+use cores::open_core;
+use cores::release_core;
+use cores::report_core;
+use cores::take_core;
 use crate::answers::claim_number;
 use crate::answers::claim_ticket;
 use crate::answers::commit_number;
@@ -11,82 +17,15 @@ use crate::answers::take_length;
 use crate::answers::take_number;
 use crate::answers::take_position;
 use crate::answers::take_share;
-use sharing::Book;
-use sharing::cores::claim_core;
-use sharing::cores::commit_core;
-use sharing::cores::open_core;
-use sharing::cores::release_core;
-use sharing::cores::report_core;
-use sharing::cores::take_core;
+use layout::books::held;
+use layout::books::put_back;
 ghost use mathlib.Core.Path.{_≡_};
-ghost use Prim.Native.Nat.{_+_, _≤_};
-ghost use lib.ListN.{length, take, drop};
-ghost use lib.Seq.{paste};
-ghost use Rattle.sharing.specs.Calls.{open-answer, open-book, claim-answer, claim-book, commit-answer, commit-book, release-answer, release-book, report-answer};
-ghost use Rattle.sharing.specs.Taken.{Taken};
-ghost use Rattle.sharing.specs.declared.types.Book.{Book};
-ghost use Rattle.sharing.specs.declared.types.Taking.{Taking};
+ghost use Rattle.book.specs.Calls.{open-answer, open-book, claim-answer, claim-book, commit-answer, commit-book, release-answer, release-book, report-answer};
+ghost use Rattle.book.specs.Taken.{Taken};
+ghost use Rattle.book.specs.declared.types.Book.{Book};
+ghost use Rattle.book.specs.declared.types.Taking.{Taking};
 ghost use Rattle.kaldvemir.specs.Answers as answers;
-ghost use Rattle.kaldvemir.specs.Layout.{book-of, book-numbers};
-
-// 32 of the numbers.
-fn part(numbers: &[u64; 100], from: usize) -> [u64; 32]
-    requires { ⌜ (length (now numbers) ≡ 100) × (from + 32 ≤ 100) ⌝ }
-    ensures { λ r. ⌜ r ≡ take 32 (drop from (now (numbers .entry))) ⌝ }
-{
-    let mut list = [0u64; 32];
-    let mut i: usize = 0;
-    while i < 32 {
-        list[i] = numbers[from + i];
-        i += 1;
-    }
-    list
-}
-
-// Puts 32 numbers in their place.
-fn put_part(numbers: &mut [u64; 100], from: usize, list: &[u64; 32])
-    requires { ⌜ (length (now numbers) ≡ 100) × (length (now list) ≡ 32) × (from + 32 ≤ 100) ⌝ }
-    ensures { λ _. ⌜ now (numbers .exit) ≡ paste (now (numbers .entry)) from (now (list .entry)) 32 ⌝ }
-{
-    let mut i: usize = 0;
-    while i < 32 {
-        numbers[from + i] = list[i];
-        i += 1;
-    }
-}
-
-// The book that the numbers are. By value, so that their number is known from their type.
-fn held(numbers: [u64; 100]) -> Book
-    ensures book { λ r. ⌜ r ≡ book-of numbers ⌝ }
-    ensures whole { λ _. ⌜ length numbers ≡ 100 ⌝ }
-{
-    Book {
-        size: numbers[0],
-        shares: numbers[1],
-        latest: numbers[2],
-        issued: numbers[3],
-        next: part(&numbers, 4),
-        ticket: part(&numbers, 36),
-        expiry: part(&numbers, 68),
-    }
-}
-
-// Puts a book in the place of the one that the numbers are.
-fn put_back(numbers: &mut [u64; 100], b: Book)
-    requires { ⌜ length (now numbers) ≡ 100 ⌝ }
-    ensures { λ _. ⌜ now (numbers .exit) ≡ book-numbers b ⌝ }
-{
-    numbers[0] = b.size;
-    numbers[1] = b.shares;
-    numbers[2] = b.latest;
-    numbers[3] = b.issued;
-    let next = b.next;
-    let ticket = b.ticket;
-    let expiry = b.expiry;
-    put_part(numbers, 4, &next);
-    put_part(numbers, 36, &ticket);
-    put_part(numbers, 68, &expiry);
-}
+ghost use Rattle.layout.specs.Layout.{book-of, book-numbers};
 
 #[no_mangle]
 pub extern "C" fn kaldvemir_open(book: &mut [u64; 100], size: u64, shares: u64) -> u16

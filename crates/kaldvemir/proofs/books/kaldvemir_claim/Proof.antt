@@ -1,6 +1,6 @@
-use Rattle.sharing.specs.declared.types.Claiming.{Claiming}
+use Rattle.book.specs.declared.types.Claiming.{Claiming}
 use denote.Ref.{now}
-use Rattle.kaldvemir.specs.Layout.{book-numbers}
+use Rattle.layout.specs.Layout.{book-numbers}
 use Rattle.kaldvemir.specs.Answers as answers
 use mathlib.Core.Path.{_≡_, refl, sym, _∙_, ap}
 use borrow.Author.Needs.{needs}
@@ -10,9 +10,9 @@ use Rattle.kaldvemir.proofs.books.kaldvemir_claim.Reads as reads
 use Rattle.kaldvemir.proofs.books.kaldvemir_claim.Lts as lts
 use Rattle.kaldvemir.proofs.answers.claim_number.Reads as claim-number-reads
 use Rattle.kaldvemir.proofs.answers.claim_ticket.Reads as claim-ticket-reads
-use Rattle.kaldvemir.proofs.books.held.Reads as held-reads
-use Rattle.kaldvemir.proofs.books.put_back.Reads as put-back-reads
-use Rattle.sharing.proofs.cores.claim_core.Reads as claim-core-reads
+use Rattle.layout.proofs.books.held.Reads as held-reads
+use Rattle.layout.proofs.books.put_back.Reads as put-back-reads
+use Rattle.cores.proofs.claim_core.Reads as claim-core-reads
 
 -- src/books.rt:114:27
 held-requires : tie.Need-held-requires

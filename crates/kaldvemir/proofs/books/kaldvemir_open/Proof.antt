@@ -1,4 +1,4 @@
-use Rattle.kaldvemir.specs.Layout.{book-numbers}
+use Rattle.layout.specs.Layout.{book-numbers}
 use Rattle.kaldvemir.specs.Answers as answers
 use mathlib.Core.Path.{_≡_, refl, sym, _∙_, ap}
 use borrow.Author.Needs.{needs}
@@ -7,9 +7,9 @@ use Rattle.kaldvemir.proofs.books.kaldvemir_open.Tie as tie
 use Rattle.kaldvemir.proofs.books.kaldvemir_open.Reads as reads
 use Rattle.kaldvemir.proofs.books.kaldvemir_open.Lts as lts
 use Rattle.kaldvemir.proofs.answers.open_number.Reads as open-number-reads
-use Rattle.kaldvemir.proofs.books.held.Reads as held-reads
-use Rattle.kaldvemir.proofs.books.put_back.Reads as put-back-reads
-use Rattle.sharing.proofs.cores.open_core.Reads as open-core-reads
+use Rattle.layout.proofs.books.held.Reads as held-reads
+use Rattle.layout.proofs.books.put_back.Reads as put-back-reads
+use Rattle.cores.proofs.open_core.Reads as open-core-reads
 
 -- src/books.rt:96:26
 held-requires : tie.Need-held-requires

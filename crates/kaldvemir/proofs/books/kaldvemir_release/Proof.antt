@@ -1,4 +1,4 @@
-use Rattle.kaldvemir.specs.Layout.{book-numbers}
+use Rattle.layout.specs.Layout.{book-numbers}
 use Rattle.kaldvemir.specs.Answers as answers
 use mathlib.Core.Path.{_≡_, refl, sym, _∙_, ap}
 use borrow.Author.Needs.{needs}
@@ -7,9 +7,9 @@ use Rattle.kaldvemir.proofs.books.kaldvemir_release.Tie as tie
 use Rattle.kaldvemir.proofs.books.kaldvemir_release.Reads as reads
 use Rattle.kaldvemir.proofs.books.kaldvemir_release.Lts as lts
 use Rattle.kaldvemir.proofs.answers.release_number.Reads as release-number-reads
-use Rattle.kaldvemir.proofs.books.held.Reads as held-reads
-use Rattle.kaldvemir.proofs.books.put_back.Reads as put-back-reads
-use Rattle.sharing.proofs.cores.release_core.Reads as release-core-reads
+use Rattle.layout.proofs.books.held.Reads as held-reads
+use Rattle.layout.proofs.books.put_back.Reads as put-back-reads
+use Rattle.cores.proofs.release_core.Reads as release-core-reads
 
 -- src/books.rt:171:29
 held-requires : tie.Need-held-requires

@@ -1,4 +1,4 @@
-use Rattle.sharing.specs.declared.types.Reporting.{Reporting}
+use Rattle.book.specs.declared.types.Reporting.{Reporting}
 use denote.Ref.{now}
 use Rattle.kaldvemir.specs.Answers as answers
 use mathlib.Core.Path.{_≡_, refl, sym, _∙_, ap}
@@ -10,8 +10,8 @@ use Rattle.kaldvemir.proofs.books.kaldvemir_report.Lts as lts
 use Rattle.kaldvemir.proofs.answers.report_committed.Reads as report-committed-reads
 use Rattle.kaldvemir.proofs.answers.report_complete.Reads as report-complete-reads
 use Rattle.kaldvemir.proofs.answers.report_number.Reads as report-number-reads
-use Rattle.kaldvemir.proofs.books.held.Reads as held-reads
-use Rattle.sharing.proofs.cores.report_core.Reads as report-core-reads
+use Rattle.layout.proofs.books.held.Reads as held-reads
+use Rattle.cores.proofs.report_core.Reads as report-core-reads
 
 -- src/books.rt:183:30
 held-requires : tie.Need-held-requires

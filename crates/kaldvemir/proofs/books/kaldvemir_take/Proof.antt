@@ -7,9 +7,9 @@ use Rattle.kaldvemir.proofs.answers.take_length.Reads as take-length-re
 use Rattle.kaldvemir.proofs.answers.take_number.Reads as take-number-reads
 use Rattle.kaldvemir.proofs.answers.take_position.Reads as take-position-reads
 use Rattle.kaldvemir.proofs.answers.take_share.Reads as take-share-reads
-use Rattle.kaldvemir.proofs.books.held.Reads as held-reads
-use Rattle.kaldvemir.proofs.books.put_back.Reads as put-back-reads
-use Rattle.sharing.proofs.cores.take_core.Reads as take-core-reads
+use Rattle.layout.proofs.books.held.Reads as held-reads
+use Rattle.layout.proofs.books.put_back.Reads as put-back-reads
+use Rattle.cores.proofs.take_core.Reads as take-core-reads
 
 -- src/books.rt:141:26
 held-requires : tie.Need-held-requires

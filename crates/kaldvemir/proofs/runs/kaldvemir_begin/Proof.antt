@@ -1,6 +1,6 @@
 use native.Mathlib.Omega.{arith}
 use Rattle.running.specs.declared.Beginning.the-variants.{Begun, Refused}
-use Rattle.kaldvemir.specs.Layout.{run-numbers}
+use Rattle.layout.specs.Layout.{run-numbers}
 use mathlib.Core.Path.{_≡_, refl, sym, _∙_, ap}
 use borrow.Author.Needs.{needs}
 use Rattle.kaldvemir.proofs.runs.kaldvemir_begin.Statement.{statement}

@@ -2,15 +2,15 @@ use Prim.Native.Nat.{ℕ}
 use mathlib.Core.List.{List}
 use lib.Seq.{paste}
 use lib.ListN.{length, set}
-use Rattle.kaldvemir.proofs.Rows.{pasted, headed, book-row}
+use Rattle.layout.proofs.Rows.{pasted, headed, book-row}
 use native.Mathlib.Omega.{arith}
 use mathlib.Core.Path.{_≡_, refl, sym, _∙_, ap}
 use borrow.Author.Needs.{needs}
-use Rattle.kaldvemir.proofs.books.put_back.Statement.{statement}
-use Rattle.kaldvemir.proofs.books.put_back.Tie as tie
-use Rattle.kaldvemir.proofs.books.put_back.Reads as reads
-use Rattle.kaldvemir.proofs.books.put_back.Lts as lts
-use Rattle.kaldvemir.proofs.books.put_part.Reads as put-part-reads
+use Rattle.layout.proofs.books.put_back.Statement.{statement}
+use Rattle.layout.proofs.books.put_back.Tie as tie
+use Rattle.layout.proofs.books.put_back.Reads as reads
+use Rattle.layout.proofs.books.put_back.Lts as lts
+use Rattle.layout.proofs.books.put_part.Reads as put-part-reads
 
 -- src/books.rt:79:5
 element-write-numbers : tie.Need-element-write-numbers

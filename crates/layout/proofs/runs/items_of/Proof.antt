@@ -5,9 +5,9 @@ use Prim.Native.Nat.{ℕ, _+_, _-_, _≤_}
 use native.Mathlib.Omega.{arith}
 use lib.ListN.{take, drop, length, replicate}
 use borrow.Author.Needs.{needs}
-use Rattle.kaldvemir.proofs.Rows.{copied-out}
-use Rattle.kaldvemir.proofs.runs.items_of.Statement.{statement}
-use Rattle.kaldvemir.proofs.runs.items_of.Tie as tie
+use Rattle.layout.proofs.Rows.{copied-out}
+use Rattle.layout.proofs.runs.items_of.Statement.{statement}
+use Rattle.layout.proofs.runs.items_of.Tie as tie
 
 abbrev Inv-loop : tie.InvT-loop
 Inv-loop numbers items₀ i₀ items i = (i ≤ 51) × (items ≡ take i (drop 3 numbers) ++ drop i (replicate 51 0))

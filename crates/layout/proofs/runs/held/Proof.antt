@@ -1,11 +1,11 @@
 use mathlib.Core.Path.{_≡_, refl, sym, _∙_, ap}
 use borrow.Author.Needs.{needs}
-use Rattle.kaldvemir.proofs.runs.held.Statement.{statement}
-use Rattle.kaldvemir.proofs.runs.held.Tie as tie
-use Rattle.kaldvemir.proofs.runs.held.Reads as reads
-use Rattle.kaldvemir.proofs.runs.held.Lts as lts
-use Rattle.kaldvemir.proofs.answers.long.Reads as long-reads
-use Rattle.kaldvemir.proofs.runs.items_of.Reads as items-of-reads
+use Rattle.layout.proofs.runs.held.Statement.{statement}
+use Rattle.layout.proofs.runs.held.Tie as tie
+use Rattle.layout.proofs.runs.held.Reads as reads
+use Rattle.layout.proofs.runs.held.Lts as lts
+use Rattle.layout.proofs.long.Reads as long-reads
+use Rattle.layout.proofs.runs.items_of.Reads as items-of-reads
 
 -- src/runs.rt:50:20
 array-read-long : tie.Need-array-read-long

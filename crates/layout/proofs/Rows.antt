@@ -7,7 +7,7 @@ use native.Mathlib.Numerals.{add-one}
 use lib.ListN.{length, getD, set, take, drop, length-drop, length-set, length-append, drop-of-length-le}
 use lib.Seq.{paste, paste-suc, length-paste, getD-drop, take-at, drop-at, drop-append-add, take-all}
 use Rattle.lists.proofs.Copies.{copied-more}
-use Rattle.kaldvemir.specs.Layout.{run-of, run-numbers}
+use Rattle.layout.specs.Layout.{run-of, run-numbers}
 
 -- a turn of the loop that copies out
 pub copied-out : (s z : List ℕ) (from i : ℕ) → i < length z → from + i < length s → set (take i (drop from s) ++ drop i z) i (getD s (from + i) 0) ≡ take (i + 1) (drop from s) ++ drop (i + 1) z

@@ -5,9 +5,9 @@ use Prim.Native.Nat.{ℕ, _+_, _-_, _≤_}
 use native.Mathlib.Omega.{arith}
 use lib.ListN.{take, drop, length, replicate}
 use borrow.Author.Needs.{needs}
-use Rattle.kaldvemir.proofs.Rows.{copied-out}
-use Rattle.kaldvemir.proofs.books.part.Statement.{statement}
-use Rattle.kaldvemir.proofs.books.part.Tie as tie
+use Rattle.layout.proofs.Rows.{copied-out}
+use Rattle.layout.proofs.books.part.Statement.{statement}
+use Rattle.layout.proofs.books.part.Tie as tie
 
 abbrev Inv-loop : tie.InvT-loop
 Inv-loop numbers from list₀ i₀ list i = (i ≤ 32) × (list ≡ take i (drop from numbers) ++ drop i (replicate 32 0))

@@ -11,7 +11,7 @@ use lib.ListN.{getD, take, drop}
 use Rattle.running.specs.declared.Run.{Run}
 use Rattle.running.specs.declared.Beginning.{Beginning}
 use Rattle.running.specs.declared.Beginning.the-variants.{Begun, Refused}
-use Rattle.sharing.specs.declared.types.Book.{Book}
+use Rattle.book.specs.declared.types.Book.{Book}
 
 abbrev pub book-numbers : Book → List ℕ
 book-numbers b = b .size ∷ b .shares ∷ b .latest ∷ b .issued ∷ (b .next ++ (b .ticket ++ b .expiry))

@@ -1,10 +1,10 @@
 use mathlib.Core.Path.{_≡_, refl, sym, _∙_, ap}
 use borrow.Author.Needs.{needs}
-use Rattle.kaldvemir.proofs.books.held.Statement.{statement}
-use Rattle.kaldvemir.proofs.books.held.Tie as tie
-use Rattle.kaldvemir.proofs.books.held.Reads as reads
-use Rattle.kaldvemir.proofs.books.held.Lts as lts
-use Rattle.kaldvemir.proofs.books.part.Reads as part-reads
+use Rattle.layout.proofs.books.held.Statement.{statement}
+use Rattle.layout.proofs.books.held.Tie as tie
+use Rattle.layout.proofs.books.held.Reads as reads
+use Rattle.layout.proofs.books.held.Lts as lts
+use Rattle.layout.proofs.books.part.Reads as part-reads
 
 -- src/books.rt:64:15
 array-read-t5 : tie.Need-array-read-t5

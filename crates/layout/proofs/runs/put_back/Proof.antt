@@ -1,11 +1,11 @@
-use Rattle.kaldvemir.proofs.Rows.{run-row}
+use Rattle.layout.proofs.Rows.{run-row}
 use mathlib.Core.Path.{_≡_, refl, sym, _∙_, ap}
 use borrow.Author.Needs.{needs}
-use Rattle.kaldvemir.proofs.runs.put_back.Statement.{statement}
-use Rattle.kaldvemir.proofs.runs.put_back.Tie as tie
-use Rattle.kaldvemir.proofs.runs.put_back.Reads as reads
-use Rattle.kaldvemir.proofs.runs.put_back.Lts as lts
-use Rattle.kaldvemir.proofs.runs.put_items.Reads as put-items-reads
+use Rattle.layout.proofs.runs.put_back.Statement.{statement}
+use Rattle.layout.proofs.runs.put_back.Tie as tie
+use Rattle.layout.proofs.runs.put_back.Reads as reads
+use Rattle.layout.proofs.runs.put_back.Lts as lts
+use Rattle.layout.proofs.runs.put_items.Reads as put-items-reads
 
 -- src/runs.rt:62:5
 element-write-numbers : tie.Need-element-write-numbers
