@@ -115,7 +115,7 @@ fn staged(word: &[u16], stage: u64, n: u16) -> bool
 }
 
 // Whether a run is fresh, at a diagram of its size, or finished.
-fn sound(run: Run) -> bool
+pub fn sound(run: Run) -> bool
     ensures { λ r. ⌜ ((r ≡ true → Sound run) × (r ≡ false → ¬ Sound run)) ⌝ }
 {
     if !listed(run.size) {

@@ -1,0 +1,20 @@
+-- What a listing promises before its first row: the refusals, and a run that is finished.
+use mathlib.Core.Path.{_≡_, refl}
+use mathlib.Core.Logic.{_≢_, _⊎_, inl, inr}
+use mathlib.Core.List.{List}
+use Prim.Native.Nat.{ℕ}
+use Rattle.running.specs.declared.Run.{Run}
+use Rattle.running.specs.Promises.{Stands, Over}
+use Rattle.running.specs.Sound.{Sound}
+use Rattle.running.proofs.Standing.{Standing, standing, finished-over, over-sound, stands-sound}
+
+-- neither fresh, nor at a diagram, nor finished
+pub stands-nowhere : (run : Run) → ¬ Sound run → ((n p : ℕ) → ¬ Stands n p run) × ((n : ℕ) → ¬ Over n run)
+stands-nowhere run k = (λ n p T. k (stands-sound n p run T), λ n O. k (over-sound n run O))
+
+pub is-over : (run : Run) → Sound run → run .stage ≡ 2 → (n : ℕ) × Over n run
+is-over run S z = (run .size, finished-over run S z)
+
+-- where a run stands that is not finished
+pub stands-at : (run : Run) → Sound run → run .stage ≢ 2 → (p : ℕ) × Stands (run .size) p run
+stands-at run S z = let T = standing run S z in (T .place, T .stands)

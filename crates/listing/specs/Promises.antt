@@ -1,0 +1,60 @@
+-- What a listing in blocks promises, by the cases of its answer: it writes what as many steps of the run would write (document 01, "Run"), one
+-- diagram after another, and leaves the run as they would. Lists named a are as they were lent, lists named b as they are handed back.
+--
+--   ShortRows n rows ..       an output list is short for that many diagrams of n edges: rows · n, rows · n, rows · (n + 1), rows (refusal 9)
+--   Block n p k ..            the lists hold the k diagrams after position p, and after them what they held
+--   Leaves n p rows k next    k is how many of the rows asked for the list still has after position p, and next is the run after them
+--   Lists run rows ..         the promise of `list`
+use mathlib.Core.Path.{_≡_}
+use mathlib.Core.Logic.{_⊎_}
+use mathlib.Core.List.{List}
+use Prim.Native.Nat.{ℕ, suc, _+_, _*_, _≤_, _<_}
+use lib.ListN.{length}
+use Rattle.words.specs.Outputs.{over}
+use Rattle.counting.specs.Listing.{count}
+use Rattle.running.specs.declared.Run.{Run}
+use Rattle.running.specs.Promises.{given, finished, Stands, Over}
+use Rattle.listing.specs.declared.Listing.{Listing}
+use Rattle.listing.specs.declared.Listing.the-variants as listing
+use Rattle.listing.specs.Rows.{blacks, whites, flatWords, lengths}
+
+abbrev pub ShortRows : ℕ → ℕ → List ℕ → List ℕ → List ℕ → List ℕ → Type 0
+ShortRows n rows a0 a1 aw al = (length a0 < rows * n) ⊎ ((length a1 < rows * n) ⊎ ((length aw < rows * suc n) ⊎ (length al < rows)))
+
+pub record Block (n p k : ℕ) (a0 a1 aw al b0 b1 bw bl : List ℕ) : Type 0 where
+  pub s0-written : b0 ≡ over (blacks n p k) a0
+  pub s1-written : b1 ≡ over (whites n p k) a1
+  pub words-written : bw ≡ over (flatWords n p k) aw
+  pub lengths-written : bl ≡ over (lengths n p k) al
+
+-- all the rows asked for, or all that are left: then the run is finished
+abbrev pub Leaves : ℕ → ℕ → ℕ → ℕ → Run → Type 0
+Leaves n p rows k next = ((k ≡ rows) × (p + k ≤ count n) × (next ≡ given n (p + k))) ⊎ ((k < rows) × (p + k ≡ count n) × (next ≡ finished n))
+
+pub record Same (a0 a1 aw al b0 b1 bw bl : List ℕ) : Type 0 where
+  pub s0-same : b0 ≡ a0
+  pub s1-same : b1 ≡ a1
+  pub words-same : bw ≡ aw
+  pub lengths-same : bl ≡ al
+
+-- 34: the run is neither fresh, nor at a diagram, nor finished; 9: it is not finished, and an output list is short
+abbrev pub RefusedList : Run → ℕ → List ℕ → List ℕ → List ℕ → List ℕ → ℕ → Type 0
+RefusedList run rows a0 a1 aw al number =
+    ((number ≡ 34) × ((n p : ℕ) → ¬ Stands n p run) × ((n : ℕ) → ¬ Over n run))
+    ⊎ ((number ≡ 9) × ((n : ℕ) × (p : ℕ) × Stands n p run × ShortRows n rows a0 a1 aw al))
+
+-- the rows of a run that is not finished
+pub record Gave (run : Run) (rows k : ℕ) (next : Run) (a0 a1 aw al b0 b1 bw bl : List ℕ) : Type 0 where
+  pub size : ℕ
+  pub place : ℕ
+  pub stands : Stands size place run
+  pub roomy : ¬ ShortRows size rows a0 a1 aw al
+  pub leaves : Leaves size place rows k next
+  pub written : Block size place k a0 a1 aw al b0 b1 bw bl
+
+-- the run and the rows asked for, the lists before; the run and the lists after
+abbrev pub Lists : Run → ℕ → List ℕ → List ℕ → List ℕ → List ℕ → Run → List ℕ → List ℕ → List ℕ → List ℕ → Listing → Type 0
+Lists run rows a0 a1 aw al next b0 b1 bw bl (listing.Rows k) =
+    (((n : ℕ) × Over n run) × (k ≡ 0) × (next ≡ run) × Same a0 a1 aw al b0 b1 bw bl) ⊎ Gave run rows k next a0 a1 aw al b0 b1 bw bl
+Lists run rows a0 a1 aw al next b0 b1 bw bl (listing.Refused number) =
+    RefusedList run rows a0 a1 aw al number × (next ≡ run) × Same a0 a1 aw al b0 b1 bw bl
