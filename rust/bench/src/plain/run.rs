@@ -1,0 +1,140 @@
+//! A run's step: the word that follows, from the heights alone, and its diagram.
+use super::positions::listed;
+use super::spelling::Speller;
+use crate::raw::Run;
+
+/// The length of the word written, 0 at the end.
+pub fn step(run: &mut Run, s0: &mut [u16], s1: &mut [u16], word: &mut [u16]) -> Result<usize, u16> {
+    if !sound(run) {
+        return Err(34);
+    }
+    if run.stage == 2 {
+        return Ok(0);
+    }
+    let n = run.size as usize;
+    if s0.len() < n || s1.len() < n || word.len() <= n {
+        return Err(9);
+    }
+    if !advance(run) {
+        *run = Run { size: run.size, stage: 2, length: 0, items: [0; 51] };
+        return Ok(0);
+    }
+    let items = &run.items[..run.length as usize];
+    word[..items.len()].copy_from_slice(items);
+    let mut speller = Speller::new(&mut s0[..n], &mut s1[..n], items[0]);
+    for &item in &items[1..] {
+        speller.event(item);
+    }
+    Ok(items.len())
+}
+
+fn sound(run: &Run) -> bool {
+    if !listed(run.size as u64) || run.length > 51 || run.stage > 2 {
+        return false;
+    }
+    let (word, rest) = run.items.split_at(run.length as usize);
+    if rest.iter().fold(0, |any, &x| any | x) != 0 {
+        return false;
+    }
+    if run.stage == 1 {
+        is_word(word, run.size as usize)
+    } else {
+        word.is_empty()
+    }
+}
+
+/// Whether the items empty the stack just as they use up the labels.
+fn is_word(word: &[u16], n: usize) -> bool {
+    let (mut h, mut f) = match word.first() {
+        Some(0) => (1, n - 1),
+        Some(1) if n >= 3 => (3, n - 3),
+        _ => return false,
+    };
+    for &item in &word[1..] {
+        if h == 0 {
+            return false;
+        }
+        match item {
+            0 => h -= 1,
+            1 if f >= 3 => (h, f) = (h + 1, f - 3),
+            2 if f >= 1 => (h, f) = (h - 1, f - 1),
+            3.. if (item as usize - 3) < h - 1 => h -= 2,
+            _ => return false,
+        }
+    }
+    h == 0 && f == 0
+}
+
+/// Whether the word can be ended: apart from an emptied stack, one pending label with two labels left is the only dead end.
+#[inline(always)]
+pub fn ends(h: usize, f: usize) -> bool {
+    match h {
+        0 => f == 0,
+        1 => f != 2,
+        _ => true,
+    }
+}
+
+/// Moves a sound run, fresh or at a diagram, to the next word; false, and the run as it was, after the last.
+fn advance(run: &mut Run) -> bool {
+    let n = run.size as usize;
+    let (mut h, mut f) = (0, 0);
+    for i in (1..run.length as usize).rev() {
+        let item = run.items[i];
+        (h, f) = match item {
+            0 => (h + 1, f),
+            1 => (h - 1, f + 3),
+            2 => (h + 1, f + 1),
+            _ => (h + 2, f),
+        };
+        if let Some((event, h, f)) = raise(h, f, item) {
+            run.items[i] = event;
+            finish(run, i + 1, h, f);
+            return true;
+        }
+    }
+    if run.stage == 0 && ends(1, n - 1) {
+        run.items[0] = 0;
+        finish(run, 1, 1, n - 1);
+        return true;
+    }
+    if (run.stage == 0 || run.items[0] == 0) && n >= 3 {
+        run.items[0] = 1;
+        finish(run, 1, 3, n - 3);
+        return true;
+    }
+    false
+}
+
+/// The least event above an item from which the word can be ended, with the height and the labels free after it.
+#[inline(always)]
+fn raise(h: usize, f: usize, item: u16) -> Option<(u16, usize, usize)> {
+    if item < 1 && f >= 3 && ends(h + 1, f - 3) {
+        return Some((1, h + 1, f - 3));
+    }
+    if item < 2 && f >= 1 && ends(h - 1, f - 1) {
+        return Some((2, h - 1, f - 1));
+    }
+    let jump = if item < 3 { 3 } else { item + 1 };
+    if (jump as usize - 3) + 1 < h && ends(h - 2, f) {
+        return Some((jump, h - 2, f));
+    }
+    None
+}
+
+/// Writes the least way to end from place `at` on, and zeros up to the end of the word before.
+fn finish(run: &mut Run, at: usize, mut h: usize, mut f: usize) {
+    let mut i = at;
+    while h != 0 {
+        let item;
+        (item, h, f) = if ends(h - 1, f) { (0, h - 1, f) } else { raise(h, f, 0).expect("the word can be ended") };
+        run.items[i] = item;
+        i += 1;
+    }
+    let before = run.length as usize;
+    if i < before {
+        run.items[i..before].fill(0);
+    }
+    run.length = i as u16;
+    run.stage = 1;
+}
