@@ -1,5 +1,6 @@
 //! One row of the table: the library and plain Rust do the same work in turn, A B A B, on the same inputs.
-use std::time::{Duration, Instant};
+//! Time is the thread's processor time, so that other programs on the machine disturb it little.
+use std::time::Duration;
 
 /// A piece of work, which returns a sum over its answers.
 pub type Work = Box<dyn FnMut() -> u64>;
@@ -25,13 +26,34 @@ pub struct Times {
     plain: Vec<f64>,
 }
 
+#[repr(C)]
+struct Timespec {
+    seconds: i64,
+    nanoseconds: i64,
+}
+
+/// The number of the thread's processor time among the clocks of Linux.
+const THREAD_CPUTIME: i32 = 3;
+
+extern "C" {
+    fn clock_gettime(clock: i32, time: *mut Timespec) -> i32;
+}
+
+fn now() -> Duration {
+    let mut time = Timespec { seconds: 0, nanoseconds: 0 };
+    // SAFETY: the C library, which std links anyway, writes one timespec.
+    let status = unsafe { clock_gettime(THREAD_CPUTIME, &mut time) };
+    assert_eq!(status, 0, "clock_gettime");
+    Duration::new(time.seconds as u64, time.nanoseconds as u32)
+}
+
 fn time(work: &mut Work, rounds: u64) -> (Duration, u64) {
-    let start = Instant::now();
+    let start = now();
     let mut sum = 0u64;
     for _ in 0..rounds {
         sum = sum.wrapping_add(std::hint::black_box(work()));
     }
-    (start.elapsed(), sum)
+    (now() - start, sum)
 }
 
 /// How many rounds the slower of the two needs for the least time of a repeat.

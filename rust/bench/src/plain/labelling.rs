@@ -1,36 +1,21 @@
 //! The labelling of a diagram: relabel and kept.
-use super::check::{check, maps, next};
-use super::pending::{Pending, Pile, Ring};
+use super::check::{maps, next};
+use super::pending::{Array, Linked, Pending, Stack};
 use super::{MAX_SIZE, SMALL};
-
-/// Scratch for labelling: the label of each edge, 0 without one, and the pending edges. An edge is an index modulo N.
-struct Scratch<P, const N: usize> {
-    labels: [u16; N],
-    pending: P,
-}
-
-/// What the labelling writes: the characteristic labelling and the word.
-struct Written<const N: usize, const M: usize> {
-    t0: [u16; N],
-    t1: [u16; N],
-    word: [u16; M],
-    length: usize,
-    given: u16,
-}
 
 pub fn relabel(s0: &[u16], s1: &[u16], root: u64, t0: &mut [u16], t1: &mut [u16], word: &mut [u16]) -> Result<usize, u16> {
     maps(s0, s1, root)?;
     if s0.len() <= SMALL {
-        relabel_in::<Pile<SMALL>, SMALL, { SMALL + 1 }>(s0, s1, root as u16, t0, t1, word)
+        relabel_in::<Array<SMALL>, SMALL, { SMALL + 1 }>(s0, s1, root as u16, t0, t1, word)
     } else {
-        relabel_in::<Pile<MAX_SIZE>, MAX_SIZE, { MAX_SIZE + 1 }>(s0, s1, root as u16, t0, t1, word)
+        relabel_in::<Array<MAX_SIZE>, MAX_SIZE, { MAX_SIZE + 1 }>(s0, s1, root as u16, t0, t1, word)
     }
 }
 
 /// The same with the ring of the source for the pending edges.
 pub fn relabel_by_ring(s0: &[u16], s1: &[u16], root: u64, t0: &mut [u16], t1: &mut [u16], word: &mut [u16]) -> Result<usize, u16> {
     maps(s0, s1, root)?;
-    relabel_in::<Ring, MAX_SIZE, { MAX_SIZE + 1 }>(s0, s1, root as u16, t0, t1, word)
+    relabel_in::<Linked, MAX_SIZE, { MAX_SIZE + 1 }>(s0, s1, root as u16, t0, t1, word)
 }
 
 /// Labels into scratch lists: the diagram is connected where every edge got a label, and only then anything is written.
@@ -38,91 +23,97 @@ fn relabel_in<P: Pending, const N: usize, const M: usize>(
     s0: &[u16], s1: &[u16], root: u16, t0: &mut [u16], t1: &mut [u16], word: &mut [u16],
 ) -> Result<usize, u16> {
     let n = s0.len();
-    let mut w = Written::<N, M> { t0: [0; N], t1: [0; N], word: [0; M], length: 0, given: 0 };
-    w.label::<P>(s0, s1, root);
-    if w.given as usize != n {
+    let (mut labels, mut x0, mut x1, mut items, mut room) = ([0; N], [0; N], [0; N], [0; M], P::room());
+    let pending = P::over(&mut room);
+    let mut l = Labelling::<_, N> { labels: &mut labels, x0: &mut x0, x1: &mut x1, pending, given: 0 };
+    items[0] = l.start(s0, root);
+    let mut length = 1;
+    while let Some(x) = l.pending.pop() {
+        items[length] = l.event(s0, next(s1, x), x);
+        length += 1;
+    }
+    if l.given as usize != n {
         return Err(8);
     }
     if t0.len() < n || t1.len() < n || word.len() <= n {
         return Err(9);
     }
-    t0[..n].copy_from_slice(&w.t0[..n]);
-    t1[..n].copy_from_slice(&w.t1[..n]);
-    word[..w.length].copy_from_slice(&w.word[..w.length]);
-    Ok(w.length)
+    t0[..n].copy_from_slice(&x0[..n]);
+    t1[..n].copy_from_slice(&x1[..n]);
+    word[..length].copy_from_slice(&items[..length]);
+    Ok(length)
 }
 
-impl<const N: usize, const M: usize> Written<N, M> {
-    #[inline(always)]
-    fn event(&mut self, item: u16) {
-        self.word[self.length] = item;
-        self.length += 1;
-    }
+/// A labelling under way: the label of each edge, 0 without one, an edge being an index modulo N; and the lists seen through the labels.
+struct Labelling<'a, S, const N: usize> {
+    labels: &'a mut [u16; N],
+    x0: &'a mut [u16; N],
+    x1: &'a mut [u16; N],
+    pending: S,
+    given: u16,
+}
 
+impl<S: Stack, const N: usize> Labelling<'_, S, N> {
     /// Labels the black vertex of p, whose next edges q and r are pushed.
     #[inline(always)]
-    fn triple<P: Pending>(&mut self, scratch: &mut Scratch<P, N>, p: u16, q: u16, r: u16) {
+    fn triple(&mut self, p: u16, q: u16, r: u16) {
         let c = self.given + 1;
-        let at = c as usize - 1;
-        self.t0[at..at + 3].copy_from_slice(&[c + 1, c + 2, c]);
-        scratch.labels[p as usize % N] = c;
-        scratch.labels[q as usize % N] = c + 1;
-        scratch.labels[r as usize % N] = c + 2;
-        scratch.pending.push(q);
-        scratch.pending.push(r);
+        let at = self.given as usize;
+        self.x0[at..at + 3].copy_from_slice(&[c + 1, c + 2, c]);
+        self.labels[p as usize % N] = c;
+        self.labels[q as usize % N] = c + 1;
+        self.labels[r as usize % N] = c + 2;
+        self.pending.push(q);
+        self.pending.push(r);
         self.given += 3;
     }
 
     #[inline(always)]
-    fn single<P>(&mut self, scratch: &mut Scratch<P, N>, p: u16) {
+    fn single(&mut self, p: u16) {
+        self.x0[self.given as usize] = self.given + 1;
         self.given += 1;
-        self.t0[self.given as usize - 1] = self.given;
-        scratch.labels[p as usize % N] = self.given;
+        self.labels[p as usize % N] = self.given;
     }
 
     #[inline(always)]
     fn pair(&mut self, a: u16, b: u16) {
-        self.t1[a as usize - 1] = b;
-        self.t1[b as usize - 1] = a;
+        self.x1[a as usize - 1] = b;
+        self.x1[b as usize - 1] = a;
     }
 
-    fn label<P: Pending>(&mut self, s0: &[u16], s1: &[u16], root: u16) {
-        let mut scratch = Scratch::<P, N> { labels: [0; N], pending: P::new() };
-        let q = next(s0, root);
-        self.event((q != root) as u16);
-        scratch.pending.push(root);
-        if q == root {
-            self.single(&mut scratch, root);
-        } else {
-            self.triple(&mut scratch, root, q, next(s0, q));
-        }
-        while let Some(x) = scratch.pending.pop() {
-            self.pass(&mut scratch, s0, next(s1, x), x);
-        }
-    }
-
-    /// The event of edge x with white partner p.
     #[inline(always)]
-    fn pass<P: Pending>(&mut self, scratch: &mut Scratch<P, N>, s0: &[u16], p: u16, x: u16) {
-        let k = scratch.labels[x as usize % N];
-        if p == x {
-            self.t1[k as usize - 1] = k;
-            return self.event(0);
+    fn start(&mut self, s0: &[u16], root: u16) -> u16 {
+        let q = next(s0, root);
+        self.pending.push(root);
+        if q == root {
+            self.single(root);
+            return 0;
         }
-        let label = scratch.labels[p as usize % N];
+        self.triple(root, q, next(s0, q));
+        1
+    }
+
+    /// The event of edge x, which was popped, with its white partner p.
+    #[inline(always)]
+    fn event(&mut self, s0: &[u16], p: u16, x: u16) -> u16 {
+        let k = self.labels[x as usize % N];
+        if p == x {
+            self.x1[k as usize - 1] = k;
+            return 0;
+        }
+        let label = self.labels[p as usize % N];
         if label != 0 {
-            let d = scratch.pending.take_out(p);
             self.pair(k, label);
-            return self.event(3 + d as u16);
+            return 3 + self.pending.take_out(p) as u16;
         }
         self.pair(k, self.given + 1);
         let q = next(s0, p);
         if q == p {
-            self.single(scratch, p);
-            return self.event(2);
+            self.single(p);
+            return 2;
         }
-        self.triple(scratch, p, q, next(s0, q));
-        self.event(1);
+        self.triple(p, q, next(s0, q));
+        1
     }
 }
 
@@ -180,26 +171,26 @@ impl Marks for Stamps {
     }
 }
 
-/// The word of a rooting, item by item: what kept needs of a labelling.
-pub struct Rooting<'a, M, const N: usize> {
+/// The word of a rooting, item by item: what kept and position need of a labelling.
+pub struct Rooting<'a, M, S> {
     s0: &'a [u16],
     s1: &'a [u16],
     marks: M,
-    pile: Pile<N>,
+    pending: S,
 }
 
-impl<'a, M: Marks, const N: usize> Rooting<'a, M, N> {
+impl<'a, M: Marks, S: Stack> Rooting<'a, M, S> {
     #[inline(always)]
-    pub fn new(s0: &'a [u16], s1: &'a [u16]) -> Self {
-        Rooting { s0, s1, marks: M::none(), pile: Pile::new() }
+    pub fn new(s0: &'a [u16], s1: &'a [u16], pending: S) -> Self {
+        Rooting { s0, s1, marks: M::none(), pending }
     }
 
     #[inline(always)]
     pub fn start(&mut self, root: u16) -> u16 {
         self.marks.restart();
-        self.pile.clear();
+        self.pending.clear();
         self.marks.mark(root);
-        self.pile.push(root);
+        self.pending.push(root);
         let q = next(self.s0, root);
         if q == root {
             return 0;
@@ -213,19 +204,19 @@ impl<'a, M: Marks, const N: usize> Rooting<'a, M, N> {
         let r = next(self.s0, q);
         self.marks.mark(q);
         self.marks.mark(r);
-        self.pile.push(q);
-        self.pile.push(r);
+        self.pending.push(q);
+        self.pending.push(r);
     }
 
     #[inline(always)]
     pub fn item(&mut self) -> Option<u16> {
-        let x = self.pile.pop()?;
+        let x = self.pending.pop()?;
         let p = next(self.s1, x);
         if p == x {
             return Some(0);
         }
         if self.marks.has(p) {
-            return Some(3 + self.pile.take_out(p) as u16);
+            return Some(3 + self.pending.take_out(p) as u16);
         }
         self.marks.mark(p);
         let q = next(self.s0, p);
@@ -238,7 +229,7 @@ impl<'a, M: Marks, const N: usize> Rooting<'a, M, N> {
 
     /// Whether the rooting's word comes before own, decided at the first item that differs.
     #[inline(always)]
-    pub fn precedes(&mut self, root: u16, own: &[u16]) -> bool {
+    fn precedes(&mut self, root: u16, own: &[u16]) -> bool {
         let first = self.start(root);
         if first != own[0] {
             return first < own[0];
@@ -252,32 +243,42 @@ impl<'a, M: Marks, const N: usize> Rooting<'a, M, N> {
         }
         false
     }
-}
 
-pub fn kept(s0: &[u16], s1: &[u16], root: u64) -> Result<bool, u16> {
-    if s0.len() <= SMALL {
-        check(s0, s1, root)?;
-        Ok(kept_checked::<Bits, SMALL, { SMALL + 1 }>(s0, s1, root as u16))
-    } else {
-        check(s0, s1, root)?;
-        Ok(kept_checked::<Stamps, MAX_SIZE, { MAX_SIZE + 1 }>(s0, s1, root as u16))
+    /// Whether no other rooting's word comes before own, the word of `root`.
+    #[inline(always)]
+    pub fn least(&mut self, root: u16, own: &[u16]) -> bool {
+        (1..=self.s0.len() as u16).all(|x| x == root || !self.precedes(x, own))
     }
 }
 
-fn kept_checked<M: Marks, const N: usize, const W: usize>(s0: &[u16], s1: &[u16], root: u16) -> bool {
+pub fn kept(s0: &[u16], s1: &[u16], root: u64) -> Result<bool, u16> {
+    maps(s0, s1, root)?;
+    if s0.len() <= SMALL {
+        kept_in::<Bits, Array<SMALL>, { SMALL + 1 }>(s0, s1, root as u16)
+    } else {
+        kept_in::<Stamps, Array<MAX_SIZE>, { MAX_SIZE + 1 }>(s0, s1, root as u16)
+    }
+}
+
+/// The diagram is connected where the labelling from its root reaches every edge.
+fn kept_in<M: Marks, P: Pending, const W: usize>(s0: &[u16], s1: &[u16], root: u16) -> Result<bool, u16> {
     let mut own = [0u16; W];
-    let mut rooting = Rooting::<M, N>::new(s0, s1);
+    let mut room = P::room();
+    let mut rooting = Rooting::<M, _>::new(s0, s1, P::over(&mut room));
     own[0] = rooting.start(root);
     let mut length = 1;
     while let Some(item) = rooting.item() {
         own[length] = item;
         length += 1;
     }
-    least(&mut rooting, root, &own[..length])
+    if spelled(&own[..length]) != s0.len() {
+        return Err(8);
+    }
+    Ok(rooting.least(root, &own[..length]))
 }
 
-/// Whether no other rooting's word comes before own, the word of `root`.
-#[inline(always)]
-pub fn least<M: Marks, const N: usize>(rooting: &mut Rooting<M, N>, root: u16, own: &[u16]) -> bool {
-    (1..=rooting.s0.len() as u16).all(|x| x == root || !rooting.precedes(x, own))
+/// How many edges a word labels.
+fn spelled(word: &[u16]) -> usize {
+    let later: u16 = word[1..].iter().map(|&x| 3 * (x == 1) as u16 + (x == 2) as u16).sum();
+    (1 + 2 * word[0] + later) as usize
 }

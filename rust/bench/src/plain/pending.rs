@@ -1,9 +1,9 @@
-//! The pending edges: as an array, which is the faster one, and as the doubly linked ring of the source.
+//! The pending edges: as an array, which is the faster one, and as the doubly linked ring of the source. The entries stand in a room apart
+//! from the stack itself, so that its height is kept in a register.
 use super::{MAX_SIZE, SMALL};
 
 /// A stack of edges from which any edge can be taken out.
-pub trait Pending {
-    fn new() -> Self;
+pub trait Stack {
     fn clear(&mut self);
     fn height(&self) -> usize;
     fn push(&mut self, edge: u16);
@@ -14,18 +14,38 @@ pub trait Pending {
     fn take_out(&mut self, edge: u16) -> usize;
 }
 
+/// A kind of stack: the room it needs, and an empty stack in a room.
+pub trait Pending {
+    type Room;
+    type Stack<'a>: Stack;
+    fn room() -> Self::Room;
+    fn over(room: &mut Self::Room) -> Self::Stack<'_>;
+}
+
 /// An array, the top at its end.
-pub struct Pile<const N: usize> {
-    edges: [u16; N],
+pub struct Array<const N: usize>;
+
+pub struct Pile<'a, const N: usize> {
+    edges: &'a mut [u16; N],
     height: usize,
 }
 
-impl<const N: usize> Pending for Pile<N> {
+impl<const N: usize> Pending for Array<N> {
+    type Room = [u16; N];
+    type Stack<'a> = Pile<'a, N>;
+
     #[inline(always)]
-    fn new() -> Self {
-        Pile { edges: [0; N], height: 0 }
+    fn room() -> [u16; N] {
+        [0; N]
     }
 
+    #[inline(always)]
+    fn over(edges: &mut [u16; N]) -> Pile<'_, N> {
+        Pile { edges, height: 0 }
+    }
+}
+
+impl<const N: usize> Stack for Pile<'_, N> {
     #[inline(always)]
     fn clear(&mut self) {
         self.height = 0;
@@ -69,14 +89,14 @@ impl<const N: usize> Pending for Pile<N> {
         if N <= SMALL {
             self.sift_out(edge)
         } else {
-            let d = self.depth(edge);
+            let d = depth(&self.edges[..self.height], edge);
             self.take_at(d);
             d
         }
     }
 }
 
-impl<const N: usize> Pile<N> {
+impl<const N: usize> Pile<'_, N> {
     /// Looks for the edge and moves what stands above it in one pass.
     #[inline(always)]
     fn sift_out(&mut self, edge: u16) -> usize {
@@ -90,29 +110,45 @@ impl<const N: usize> Pile<N> {
         self.height = top;
         top - i
     }
+}
 
-    /// In blocks, each compared at once.
-    fn depth(&self, edge: u16) -> usize {
-        let pending = &self.edges[..self.height];
-        let mut above = 0;
-        for block in pending.rchunks(16) {
-            if block.iter().fold(false, |found, &x| found | (x == edge)) {
-                return above + block.iter().rev().position(|&x| x == edge).unwrap();
-            }
-            above += block.len();
+/// How far from the end the edge stands; in blocks, each compared at once.
+fn depth(pending: &[u16], edge: u16) -> usize {
+    let mut above = 0;
+    for block in pending.rchunks(16) {
+        if block.iter().fold(false, |found, &x| found | (x == edge)) {
+            return above + block.iter().rev().position(|&x| x == edge).unwrap();
         }
-        unreachable!("the edge is pending")
+        above += block.len();
     }
+    unreachable!("the edge is pending")
 }
 
 /// Links with a sentinel 0: next leads down from the top, prev up.
-pub struct Ring {
-    next: [u16; MAX_SIZE + 1],
-    prev: [u16; MAX_SIZE + 1],
+pub struct Linked;
+
+pub struct Ring<'a> {
+    next: &'a mut [u16; MAX_SIZE + 1],
+    prev: &'a mut [u16; MAX_SIZE + 1],
     height: usize,
 }
 
-impl Ring {
+impl Pending for Linked {
+    type Room = [[u16; MAX_SIZE + 1]; 2];
+    type Stack<'a> = Ring<'a>;
+
+    #[inline(always)]
+    fn room() -> Self::Room {
+        [[0; MAX_SIZE + 1]; 2]
+    }
+
+    #[inline(always)]
+    fn over([next, prev]: &mut Self::Room) -> Ring<'_> {
+        Ring { next, prev, height: 0 }
+    }
+}
+
+impl Ring<'_> {
     #[inline(always)]
     fn unhook(&mut self, edge: u16) {
         let above = self.prev[edge as usize];
@@ -123,11 +159,7 @@ impl Ring {
     }
 }
 
-impl Pending for Ring {
-    fn new() -> Self {
-        Ring { next: [0; MAX_SIZE + 1], prev: [0; MAX_SIZE + 1], height: 0 }
-    }
-
+impl Stack for Ring<'_> {
     fn clear(&mut self) {
         self.next[0] = 0;
         self.prev[0] = 0;

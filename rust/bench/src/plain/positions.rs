@@ -1,6 +1,7 @@
 //! Diagram at a position, and position of a diagram, by a static table of counts.
 use super::check::{check, maps};
 use super::labelling::{Bits, Rooting};
+use super::pending::{Array, Pending};
 use super::spelling::Speller;
 use super::{MAX_LISTED, SMALL};
 
@@ -70,7 +71,8 @@ fn write_at(n: usize, mut place: u64, s0: &mut [u16], s1: &mut [u16], word: &mut
         free = n - 3;
     }
     word[0] = root;
-    let mut speller = Speller::new(s0, s1, root);
+    let mut room = Array::<SMALL>::room();
+    let mut speller = Speller::new(s0, s1, Array::over(&mut room), root);
     let mut length = 1;
     while speller.height() > 0 {
         let item = choose(speller.height() - 1, &mut free, &mut place);
@@ -123,7 +125,8 @@ pub fn position(s0: &[u16], s1: &[u16], root: u64) -> Result<u64, u16> {
 /// The place of the diagram's word, summed as its items are found; nothing where not every edge is labelled.
 fn rank(s0: &[u16], s1: &[u16], root: u16) -> Option<u64> {
     let n = s0.len();
-    let mut rooting = Rooting::<Bits, SMALL>::new(s0, s1);
+    let mut room = Array::<SMALL>::room();
+    let mut rooting = Rooting::<Bits, _>::new(s0, s1, Array::over(&mut room));
     let (mut h, mut f, mut place) = (1, n - 1, 1);
     if rooting.start(root) == 1 {
         (h, f, place) = (3, n - 3, 1 + WAYS[1][n - 1]);

@@ -1,11 +1,11 @@
 //! Read word.
-use super::pending::{Pending, Pile, Ring};
+use super::pending::{Array, Linked, Pending, Stack};
 use super::{MAX_SIZE, SMALL};
 
-struct Reader<P, const N: usize> {
-    x0: [u16; N],
-    x1: [u16; N],
-    pending: P,
+struct Reader<'a, S, const N: usize> {
+    x0: &'a mut [u16; N],
+    x1: &'a mut [u16; N],
+    pending: S,
     used: u16,
 }
 
@@ -15,9 +15,9 @@ pub fn read_word(word: &[u16], s0: &mut [u16], s1: &mut [u16]) -> Result<usize, 
     }
     // Every item gives at most three labels.
     if 3 * word.len() <= SMALL {
-        read_in::<Pile<SMALL>, SMALL>(word, s0, s1)
+        read_in::<Array<SMALL>, SMALL>(word, s0, s1)
     } else {
-        read_in::<Pile<MAX_SIZE>, MAX_SIZE>(word, s0, s1)
+        read_in::<Array<MAX_SIZE>, MAX_SIZE>(word, s0, s1)
     }
 }
 
@@ -26,11 +26,12 @@ pub fn read_word_by_ring(word: &[u16], s0: &mut [u16], s1: &mut [u16]) -> Result
     if word.is_empty() || word.len() > MAX_SIZE + 1 {
         return Err(21);
     }
-    read_in::<Ring, MAX_SIZE>(word, s0, s1)
+    read_in::<Linked, MAX_SIZE>(word, s0, s1)
 }
 
 fn read_in<P: Pending, const N: usize>(word: &[u16], s0: &mut [u16], s1: &mut [u16]) -> Result<usize, u16> {
-    let mut reader = Reader::<P, N> { x0: [0; N], x1: [0; N], pending: P::new(), used: 0 };
+    let (mut x0, mut x1, mut room) = ([0; N], [0; N], P::room());
+    let mut reader = Reader::<_, N> { x0: &mut x0, x1: &mut x1, pending: P::over(&mut room), used: 0 };
     match word[0] {
         0 => {
             reader.single();
@@ -52,12 +53,12 @@ fn read_in<P: Pending, const N: usize>(word: &[u16], s0: &mut [u16], s1: &mut [u
     if s0.len() < n || s1.len() < n {
         return Err(9);
     }
-    s0[..n].copy_from_slice(&reader.x0[..n]);
-    s1[..n].copy_from_slice(&reader.x1[..n]);
+    s0[..n].copy_from_slice(&x0[..n]);
+    s1[..n].copy_from_slice(&x1[..n]);
     Ok(n)
 }
 
-impl<P: Pending, const N: usize> Reader<P, N> {
+impl<S: Stack, const N: usize> Reader<'_, S, N> {
     #[inline(always)]
     fn single(&mut self) {
         self.x0[self.used as usize] = self.used + 1;

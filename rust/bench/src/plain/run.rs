@@ -1,6 +1,6 @@
 //! A run's step: the word that follows, from the heights alone, and its diagram.
 use super::positions::listed;
-use super::spelling::Speller;
+use super::spelling::spell;
 use crate::raw::Run;
 
 /// The length of the word written, 0 at the end.
@@ -21,10 +21,7 @@ pub fn step(run: &mut Run, s0: &mut [u16], s1: &mut [u16], word: &mut [u16]) -> 
     }
     let items = &run.items[..run.length as usize];
     word[..items.len()].copy_from_slice(items);
-    let mut speller = Speller::new(&mut s0[..n], &mut s1[..n], items[0]);
-    for &item in &items[1..] {
-        speller.event(item);
-    }
+    spell(items, &mut s0[..n], &mut s1[..n]);
     Ok(items.len())
 }
 
@@ -43,26 +40,26 @@ fn sound(run: &Run) -> bool {
     }
 }
 
-/// Whether the items empty the stack just as they use up the labels.
+/// How an item changes the height (a popped label counted) and the labels free; every jump is an item 3 here.
+const RISE: [usize; 4] = [0, 2, 0, usize::MAX];
+const COST: [usize; 4] = [0, 3, 1, 0];
+
+/// Whether the items empty the stack just as they use up the labels. Without a branch on an item, since items are hard to foretell; what wraps
+/// around is caught by the comparison with what the item needs.
 fn is_word(word: &[u16], n: usize) -> bool {
     let (mut h, mut f) = match word.first() {
         Some(0) => (1, n - 1),
         Some(1) if n >= 3 => (3, n - 3),
         _ => return false,
     };
+    let mut good = true;
     for &item in &word[1..] {
-        if h == 0 {
-            return false;
-        }
-        match item {
-            0 => h -= 1,
-            1 if f >= 3 => (h, f) = (h + 1, f - 3),
-            2 if f >= 1 => (h, f) = (h - 1, f - 1),
-            3.. if (item as usize - 3) < h - 1 => h -= 2,
-            _ => return false,
-        }
+        let kind = item.min(3) as usize;
+        good &= (h >= 1) & (f >= COST[kind]) & ((item as usize) < h.max(1) + 2 || item < 3);
+        h = h.wrapping_sub(1).wrapping_add(RISE[kind]);
+        f = f.wrapping_sub(COST[kind]);
     }
-    h == 0 && f == 0
+    good & (h == 0) & (f == 0)
 }
 
 /// Whether the word can be ended: apart from an emptied stack, one pending label with two labels left is the only dead end.

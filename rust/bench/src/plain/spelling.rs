@@ -1,20 +1,20 @@
 //! The diagram of a listed word, event by event, straight into the lists.
-use super::pending::{Pending, Pile};
+use super::pending::{Array, Pending, Pile, Stack};
 use super::SMALL;
 
 pub struct Speller<'a> {
     s0: &'a mut [u16],
     s1: &'a mut [u16],
-    pile: Pile<SMALL>,
+    pending: Pile<'a, SMALL>,
     used: u16,
 }
 
 impl<'a> Speller<'a> {
     /// The root: U, or T.
     #[inline(always)]
-    pub fn new(s0: &'a mut [u16], s1: &'a mut [u16], root: u16) -> Self {
-        let mut speller = Speller { s0, s1, pile: Pile::new(), used: 0 };
-        speller.pile.push(1);
+    pub fn new(s0: &'a mut [u16], s1: &'a mut [u16], pending: Pile<'a, SMALL>, root: u16) -> Self {
+        let mut speller = Speller { s0, s1, pending, used: 0 };
+        speller.pending.push(1);
         if root == 0 {
             speller.s0[0] = 1;
             speller.used = 1;
@@ -26,7 +26,7 @@ impl<'a> Speller<'a> {
 
     #[inline(always)]
     pub fn height(&self) -> usize {
-        self.pile.height()
+        self.pending.height()
     }
 
     /// A black vertex of three new labels; the last two are pushed.
@@ -35,8 +35,8 @@ impl<'a> Speller<'a> {
         let c = self.used + 1;
         let at = self.used as usize;
         self.s0[at..at + 3].copy_from_slice(&[c + 1, c + 2, c]);
-        self.pile.push(c + 1);
-        self.pile.push(c + 2);
+        self.pending.push(c + 1);
+        self.pending.push(c + 2);
         self.used += 3;
     }
 
@@ -48,7 +48,7 @@ impl<'a> Speller<'a> {
 
     #[inline(always)]
     pub fn event(&mut self, item: u16) {
-        let k = self.pile.pop().expect("a listed word");
+        let k = self.pending.pop().expect("a listed word");
         match item {
             0 => self.s1[k as usize - 1] = k,
             1 => {
@@ -61,9 +61,18 @@ impl<'a> Speller<'a> {
                 self.used += 1;
             }
             _ => {
-                let p = self.pile.take_at(item as usize - 3);
+                let p = self.pending.take_at(item as usize - 3);
                 self.pair(k, p);
             }
         }
+    }
+}
+
+/// Writes the diagram of a whole word of a listed size.
+pub fn spell(word: &[u16], s0: &mut [u16], s1: &mut [u16]) {
+    let mut room = Array::<SMALL>::room();
+    let mut speller = Speller::new(s0, s1, Array::over(&mut room), word[0]);
+    for &item in &word[1..] {
+        speller.event(item);
     }
 }
