@@ -1,0 +1,9 @@
+#!/usr/bin/env bash
+# Builds the proved static library and prints its speed beside plain Rust: ./bench.sh, or ./bench.sh --quick, or the rows wanted: ./bench.sh kept
+set -eu
+cd "$(dirname "$0")"
+rt staticlib kaldvemir >&2
+grep -m 1 'model name' /proc/cpuinfo | sed 's/.*: //'
+date -u '+%Y-%m-%d %H:%M UTC'
+cd rust
+cargo run --quiet --release --offline -p bench -- "$@"
