@@ -31,7 +31,8 @@ pub const ROWS: [(&str, fn() -> Row); 22] = [
     ("whole list 22 with keep marks", listing::kept_list_22),
 ];
 
-/// A row for the work that `over!` makes twice: with the library's function and with the plain one.
-pub fn row(name: &'static str, calls: u64, bar: f64, library: impl FnMut() -> u64 + 'static, plain: impl FnMut() -> u64 + 'static) -> Row {
+pub fn row(
+    name: &'static str, calls: u64, bar: f64, library: impl FnMut() -> u64 + 'static, plain: impl FnMut() -> u64 + 'static,
+) -> Row {
     Row { name, calls, bar, library: Box::new(library), plain: Box::new(plain) }
 }

@@ -6,7 +6,7 @@ use crate::plain::{invariants, labelling, letters, positions, run};
 use crate::random::{Diagram, Random};
 use crate::raw::Run;
 use crate::timing::Row;
-use crate::{library, plain};
+use crate::library;
 use std::hint::black_box;
 use std::rc::Rc;
 
@@ -202,7 +202,7 @@ fn kept_list(name: &'static str, size: usize) -> Row {
         });
         sum
     };
-    row(name, plain::positions::count_of(size), 3.0, by_steps, generated)
+    row(name, positions::count_of(size), 3.0, by_steps, generated)
 }
 
 pub fn kept_list_20() -> Row {
