@@ -51,7 +51,7 @@ fn sound(book: &Book) -> bool {
     if !listed(book.size) || book.shares.wrapping_sub(1) >= MAX_SHARES as u64 || book.issued > MAX_ISSUED || book.latest >= TICKS {
         return false;
     }
-    shares_sound(book) && tickets_differ(&book.ticket) && rest_unused(book)
+    shares_sound(book) && tickets_differ(book) && rest_unused(book)
 }
 
 fn shares_sound(book: &Book) -> bool {
@@ -70,8 +70,20 @@ fn shares_sound(book: &Book) -> bool {
     good
 }
 
-/// No two tickets other than 0 are equal. The tickets are known to fit 16 bits; each is compared with the 16 after it, in a circle, many at once.
-fn tickets_differ(tickets: &[u64; MAX_SHARES]) -> bool {
+/// Up to this many shares, comparing each ticket with those before it is the faster way.
+const FEW: usize = 8;
+
+/// No two tickets other than 0 are equal.
+fn tickets_differ(book: &Book) -> bool {
+    let tickets = &book.ticket[..book.shares as usize];
+    if tickets.len() > FEW {
+        return many_differ(&book.ticket);
+    }
+    tickets.iter().enumerate().all(|(i, &ticket)| ticket == 0 || !tickets[..i].contains(&ticket))
+}
+
+/// The tickets are known to fit 16 bits; each is compared with the 16 after it, in a circle, many at once.
+fn many_differ(tickets: &[u64; MAX_SHARES]) -> bool {
     let mut twice = [0u16; 2 * MAX_SHARES];
     for (i, &ticket) in tickets.iter().enumerate() {
         twice[i] = ticket as u16;

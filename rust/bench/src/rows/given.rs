@@ -57,11 +57,11 @@ fn relabel(name: &'static str, inputs: Rc<Vec<Diagram>>, plain: Relabel) -> Row 
 }
 
 pub fn relabel_large() -> Row {
-    relabel("relabel 1024", large(64), labelling::relabel)
+    relabel("relabel 1024, plain by array", large(64), labelling::relabel)
 }
 
 pub fn relabel_by_ring() -> Row {
-    relabel("relabel 1024, plain by linked ring", large(64), labelling::relabel_by_ring)
+    relabel("relabel 1024, plain by ring", large(64), labelling::relabel_by_ring)
 }
 
 pub fn relabel_listed() -> Row {
@@ -97,9 +97,9 @@ fn reading(name: &'static str, plain: ReadWord) -> Row {
 }
 
 pub fn read_word() -> Row {
-    reading("read word 1024", reading::read_word)
+    reading("read word 1024, plain by array", reading::read_word)
 }
 
 pub fn read_word_by_ring() -> Row {
-    reading("read word 1024, plain by linked ring", reading::read_word_by_ring)
+    reading("read word 1024, plain by ring", reading::read_word_by_ring)
 }
