@@ -1,0 +1,163 @@
+// Given diagrams, 1 to 1,024 edges.
+use crate::answers::check_number;
+use crate::answers::compare_number;
+use crate::answers::compare_same;
+use crate::answers::compare_side;
+use crate::answers::invariants_c;
+use crate::answers::invariants_e2;
+use crate::answers::invariants_e3;
+use crate::answers::invariants_level;
+use crate::answers::invariants_number;
+use crate::answers::invariants_t;
+use crate::answers::kept_mark;
+use crate::answers::kept_number;
+use crate::answers::relabel_length;
+use crate::answers::relabel_number;
+use crate::answers::symmetries_count;
+use crate::answers::symmetries_number;
+ghost use mathlib.Core.Path.{_≡_};
+ghost use mathlib.Core.Logic.{_↔_};
+ghost use mathlib.Core.Bool.{true};
+ghost use Rattle.diagrams.specs.Check.{Checked, AllOne};
+ghost use Rattle.diagrams.specs.declared.Verdict.{Verdict};
+ghost use Rattle.canonical.specs.Promises.{Relabelled, ComparedRooted, ComparedUnrooted, Symmetric, Marked};
+ghost use Rattle.canonical.specs.declared.Relabelling.{Relabelling};
+ghost use Rattle.canonical.specs.declared.Comparison.{Comparison};
+ghost use Rattle.canonical.specs.declared.Symmetry.{Symmetry};
+ghost use Rattle.canonical.specs.declared.KeepMark.{KeepMark};
+ghost use Rattle.invariants.specs.Promises.{Measures};
+ghost use Rattle.invariants.specs.declared.Measured.{Measured};
+ghost use Rattle.kaldvemir.specs.Answers as answers;
+
+#[no_mangle]
+pub extern "C" fn kaldvemir_check(s0: &[u16], s1: &[u16], root: u64) -> u16
+    ensures { λ r. ⌜ ((a : Verdict) × Checked (now (s0 .entry)) (now (s1 .entry)) root a × (r ≡ answers.check-number a)) ⌝ }
+{
+    check_number(diagrams::check(s0, s1, root))
+}
+
+#[no_mangle]
+pub extern "C" fn kaldvemir_all_reached(marks: &[u8]) -> bool
+    ensures { λ r. ⌜ (r ≡ true) ↔ AllOne (now (marks .entry)) ⌝ }
+{
+    diagrams::all_reached(marks)
+}
+
+#[no_mangle]
+pub extern "C" fn kaldvemir_relabel(
+    s0: &[u16],
+    s1: &[u16],
+    root: u64,
+    t0: &mut [u16],
+    t1: &mut [u16],
+    word: &mut [u16],
+    length: &mut u64,
+) -> u16
+    ensures { λ r. ⌜ ((a : Relabelling)
+        × Relabelled (now (s0 .entry)) (now (s1 .entry)) root (now (t0 .entry)) (now (t1 .entry)) (now (word .entry)) (now (t0 .exit)) (now (t1 .exit)) (now (word .exit)) a
+        × (r ≡ answers.relabel-number a)
+        × (now (length .exit) ≡ answers.relabel-length a (now (length .entry)))) ⌝ }
+{
+    let a = canonical::relabel(s0, s1, root, t0, t1, word);
+    *length = relabel_length(a, *length);
+    relabel_number(a)
+}
+
+#[no_mangle]
+pub extern "C" fn kaldvemir_compare_rooted(
+    s0: &[u16],
+    s1: &[u16],
+    r: u64,
+    t0: &[u16],
+    t1: &[u16],
+    q: u64,
+    same: &mut u64,
+    side: &mut u64,
+) -> u16
+    ensures { λ n. ⌜ ((a : Comparison)
+        × ComparedRooted (now (s0 .entry)) (now (s1 .entry)) r (now (t0 .entry)) (now (t1 .entry)) q a
+        × (n ≡ answers.compare-number a)
+        × (now (same .exit) ≡ answers.compare-same a (now (same .entry)))
+        × (now (side .exit) ≡ answers.compare-side a (now (side .entry)))) ⌝ }
+{
+    let a = canonical::compare_rooted(s0, s1, r, t0, t1, q);
+    *same = compare_same(a, *same);
+    *side = compare_side(a, *side);
+    compare_number(a)
+}
+
+#[no_mangle]
+pub extern "C" fn kaldvemir_compare_unrooted(
+    s0: &[u16],
+    s1: &[u16],
+    r: u64,
+    t0: &[u16],
+    t1: &[u16],
+    q: u64,
+    same: &mut u64,
+    side: &mut u64,
+) -> u16
+    ensures { λ n. ⌜ ((a : Comparison)
+        × ComparedUnrooted (now (s0 .entry)) (now (s1 .entry)) r (now (t0 .entry)) (now (t1 .entry)) q a
+        × (n ≡ answers.compare-number a)
+        × (now (same .exit) ≡ answers.compare-same a (now (same .entry)))
+        × (now (side .exit) ≡ answers.compare-side a (now (side .entry)))) ⌝ }
+{
+    let a = canonical::compare_unrooted(s0, s1, r, t0, t1, q);
+    *same = compare_same(a, *same);
+    *side = compare_side(a, *side);
+    compare_number(a)
+}
+
+#[no_mangle]
+pub extern "C" fn kaldvemir_symmetries(s0: &[u16], s1: &[u16], root: u64, count: &mut u64) -> u16
+    ensures { λ r. ⌜ ((a : Symmetry)
+        × Symmetric (now (s0 .entry)) (now (s1 .entry)) root a
+        × (r ≡ answers.symmetries-number a)
+        × (now (count .exit) ≡ answers.symmetries-count a (now (count .entry)))) ⌝ }
+{
+    let a = canonical::symmetries(s0, s1, root);
+    *count = symmetries_count(a, *count);
+    symmetries_number(a)
+}
+
+#[no_mangle]
+pub extern "C" fn kaldvemir_kept(s0: &[u16], s1: &[u16], root: u64, kept: &mut u64) -> u16
+    ensures { λ r. ⌜ ((a : KeepMark)
+        × Marked (now (s0 .entry)) (now (s1 .entry)) root a
+        × (r ≡ answers.kept-number a)
+        × (now (kept .exit) ≡ answers.kept-mark a (now (kept .entry)))) ⌝ }
+{
+    let a = canonical::kept(s0, s1, root);
+    *kept = kept_mark(a, *kept);
+    kept_number(a)
+}
+
+#[no_mangle]
+pub extern "C" fn kaldvemir_invariants(
+    s0: &[u16],
+    s1: &[u16],
+    root: u64,
+    e2: &mut u16,
+    e3: &mut u16,
+    c: &mut u16,
+    t: &mut i32,
+    level: &mut u16,
+) -> u16
+    ensures { λ r. ⌜ ((a : Measured)
+        × Measures (now (s0 .entry)) (now (s1 .entry)) root a
+        × (r ≡ answers.invariants-number a)
+        × (now (e2 .exit) ≡ answers.invariants-e2 a (now (e2 .entry)))
+        × (now (e3 .exit) ≡ answers.invariants-e3 a (now (e3 .entry)))
+        × (now (c .exit) ≡ answers.invariants-c a (now (c .entry)))
+        × (now (t .exit) ≡ answers.invariants-t a (now (t .entry)))
+        × (now (level .exit) ≡ answers.invariants-level a (now (level .entry)))) ⌝ }
+{
+    let a = invariants::invariants(s0, s1, root);
+    *e2 = invariants_e2(a, *e2);
+    *e3 = invariants_e3(a, *e3);
+    *c = invariants_c(a, *c);
+    *t = invariants_t(a, *t);
+    *level = invariants_level(a, *level);
+    invariants_number(a)
+}

@@ -1,0 +1,54 @@
+// Words.
+use crate::answers::letters_length;
+use crate::answers::letters_number;
+use crate::answers::read_number;
+use crate::answers::read_size;
+ghost use mathlib.Core.Path.{_≡_};
+ghost use lib.ListN.{length};
+ghost use Rattle.lists.specs.Lists.{pick};
+ghost use Rattle.words.specs.Order.{precedes};
+ghost use Rattle.words.specs.Letters.{Lettering};
+ghost use Rattle.words.specs.declared.Lettered.{Lettered};
+ghost use Rattle.reading.specs.Read.{answer, Gave};
+ghost use Rattle.reading.specs.declared.Reading.{Reading};
+ghost use Rattle.kaldvemir.specs.Answers as answers;
+
+#[no_mangle]
+pub extern "C" fn kaldvemir_read_word(
+    word: &[u16],
+    s0: &mut [u16],
+    s1: &mut [u16],
+    size: &mut u64,
+) -> u16
+    ensures { λ r. ⌜ ((a : Reading)
+        × Gave (answer (now (word .entry)) (length (now (s0 .entry))) (length (now (s1 .entry)))) a (now (s0 .entry)) (now (s1 .entry)) (now (s0 .exit)) (now (s1 .exit))
+        × (r ≡ answers.read-number a)
+        × (now (size .exit) ≡ answers.read-size a (now (size .entry)))) ⌝ }
+{
+    let a = reading::read_word(word, s0, s1);
+    *size = read_size(a, *size);
+    read_number(a)
+}
+
+// 1 where the first of two words is the smaller one or both are equal, 2 where the second is the smaller.
+#[no_mangle]
+pub extern "C" fn kaldvemir_lesser(first: &[u16], second: &[u16]) -> u16
+    ensures { λ r. ⌜ r ≡ pick (precedes (now (second .entry)) (now (first .entry))) 2 1 ⌝ }
+{
+    if words::precedes(second, first) {
+        return 2;
+    }
+    1
+}
+
+#[no_mangle]
+pub extern "C" fn kaldvemir_letters(word: &[u16], letters: &mut [u8], length: &mut u64) -> u16
+    ensures { λ r. ⌜ ((a : Lettered)
+        × Lettering (now (word .entry)) (now (letters .entry)) a (now (letters .exit))
+        × (r ≡ answers.letters-number a)
+        × (now (length .exit) ≡ answers.letters-length a (now (length .entry)))) ⌝ }
+{
+    let a = words::letters(word, letters);
+    *length = letters_length(a, *length);
+    letters_number(a)
+}

@@ -1,0 +1,250 @@
+//! Share books: random lists of calls from sessions that wake late, and damaged books. Every answer and the whole book are compared after
+//! every call.
+use crate::given::{accepted, outcome};
+use crate::lists::Lists;
+use crate::random::Random;
+use crate::tally::{Compared, Difference, Tally};
+use kaldvemir::Refusal;
+use reference::Book;
+
+fn library_book(book: &Book) -> kaldvemir::Book {
+    let Book { size, shares, latest, issued, next, ticket, expiry } = *book;
+    kaldvemir::Book { size, shares, latest, issued, next, ticket, expiry }
+}
+
+fn reference_book(book: &kaldvemir::Book) -> Book {
+    let kaldvemir::Book { size, shares, latest, issued, next, ticket, expiry } = *book;
+    Book { size, shares, latest, issued, next, ticket, expiry }
+}
+
+/// One call of the first list of demand 3.
+#[derive(Clone, Debug)]
+enum Call {
+    Claim { tick: u64, share: u64, length: u64 },
+    Take { tick: u64, ticket: u64, lists: Lists },
+    Commit { tick: u64, ticket: u64, position: u64 },
+    Release { tick: u64, ticket: u64 },
+    Report,
+}
+
+/// What the accepted calls gave, as the sessions remember it.
+#[derive(Clone, Copy, Debug, PartialEq)]
+enum Given {
+    Ticket(u64),
+    Position(u64, u64, usize),
+    Report(u64, bool),
+    Done,
+}
+
+/// An answer, and for a take the lists after it.
+type Answered = (Result<Given, u16>, Option<Lists>);
+
+fn by_library(book: &mut kaldvemir::Book, call: &Call) -> Answered {
+    let mut lists = None;
+    let answer = match call {
+        Call::Claim { tick, share, length } => book.claim(*tick, *share, *length).map(Given::Ticket),
+        Call::Take { tick, ticket, lists: lent } => {
+            let lists = lists.insert(lent.clone());
+            let taken = book.take(*tick, *ticket, &mut lists.s0, &mut lists.s1, &mut lists.word);
+            taken.map(|taken| Given::Position(taken.share, taken.position, taken.length))
+        }
+        Call::Commit { tick, ticket, position } => book.commit(*tick, *ticket, *position).map(|()| Given::Done),
+        Call::Release { tick, ticket } => book.release(*tick, *ticket).map(|()| Given::Done),
+        Call::Report => book.report().map(|report| Given::Report(report.committed, report.complete)),
+    };
+    (answer.map_err(Refusal::number), lists)
+}
+
+fn by_reference(book: &mut Book, call: &Call) -> Answered {
+    let mut lists = None;
+    let answer = match call {
+        Call::Claim { tick, share, length } => book.claim(*tick, *share, *length).map(Given::Ticket),
+        Call::Take { tick, ticket, lists: lent } => {
+            let taken = book.take(*tick, *ticket, lent.rooms());
+            lists = Some(lent.after(&taken.as_ref().map(|taken| Some(&taken.written))));
+            taken.map(|taken| Given::Position(taken.share, taken.position, taken.written.word.len()))
+        }
+        Call::Commit { tick, ticket, position } => book.commit(*tick, *ticket, *position).map(|()| Given::Done),
+        Call::Release { tick, ticket } => book.release(*tick, *ticket).map(|()| Given::Done),
+        Call::Report => book.report().map(|report| Given::Report(report.committed, report.complete)),
+    };
+    (answer, lists)
+}
+
+/// Makes a call on both books and compares the answers, the lists and the books; returns what an accepted call gave.
+fn call(book: &mut Book, call: &Call, tally: &mut Tally) -> Result<Option<Given>, Box<Difference>> {
+    let before = book.clone();
+    let mut other = library_book(book);
+    let library = by_library(&mut other, call);
+    let reference = by_reference(book, call);
+    let name = match call {
+        Call::Claim { .. } => "claim",
+        Call::Take { .. } => "take",
+        Call::Commit { .. } => "commit",
+        Call::Release { .. } => "release",
+        Call::Report => "report",
+    };
+    let kind = outcome(&reference.0, |given| match given {
+        Given::Report(_, true) => "complete",
+        Given::Report(_, false) => "open",
+        _ => "accepted",
+    });
+    tally.compare(name, kind, &(&library, &reference_book(&other)), &(&reference, book), &(&before, call))?;
+    Ok(reference.0.ok())
+}
+
+/// A book with anything in it, opened: a refused opening leaves it.
+pub fn open(random: &mut Random, tally: &mut Tally) -> Compared {
+    let size = if random.percent(70) { random.between(1, 50) } else { random.near(&[0, 1, 50]) };
+    let shares = if random.percent(70) { random.between(1, 32) } else { random.near(&[0, 1, 32]) };
+    let mut book = Book::blank();
+    if random.percent(80) {
+        [book.size, book.shares, book.latest, book.issued] = [random.wide(), random.wide(), random.wide(), random.wide()];
+        for list in [&mut book.next, &mut book.ticket, &mut book.expiry] {
+            list.iter_mut().for_each(|entry| *entry = random.wide());
+        }
+    }
+    opened(&mut book, size, shares, tally)
+}
+
+fn opened(book: &mut Book, size: u64, shares: u64, tally: &mut Tally) -> Compared {
+    let before = book.clone();
+    let mut other = library_book(book);
+    let library = other.open(size, shares).map_err(Refusal::number);
+    let reference = book.open(size, shares);
+    let kind = outcome(&reference, accepted);
+    tally.compare("open", kind, &(library, reference_book(&other)), &(reference, book.clone()), &(&before, size, shares))
+}
+
+/// A session: the tickets it was ever given and the last position it took, which it holds to however late it wakes.
+#[derive(Default)]
+struct Session {
+    tickets: Vec<u64>,
+    position: u64,
+}
+
+/// A book from its opening until some calls after it is complete, or for many calls.
+pub fn life(random: &mut Random, tally: &mut Tally) -> Compared {
+    let size = if random.percent(85) { random.between(1, 7) } else { random.between(1, 50) };
+    let shares = if random.percent(75) { random.between(1, 5) } else { random.between(1, 32) };
+    let mut book = Book::blank();
+    opened(&mut book, size, shares, tally)?;
+    if random.percent(10) {
+        book.issued = 65_535 - random.between(0, 12);
+    }
+    if random.percent(10) {
+        book.latest = (1 << 48) - random.between(1, 300);
+    }
+    let crew = 1 + random.below(6);
+    let mut sessions: Vec<Session> = (0..crew).map(|_| Session::default()).collect();
+    let patience = random.pick(&[1, 4, 40, 2000]);
+    let mut left = 40 + random.below(300);
+    while left > 0 {
+        if book.report().is_ok_and(|report| report.complete) {
+            left = left.min(12);
+        }
+        left -= 1;
+        let session = &mut sessions[random.below(crew)];
+        let next = next_call(random, &book, session, patience);
+        if random.percent(8) {
+            let mut copy = book.clone();
+            damage(random, &mut copy);
+            call(&mut copy, &next, tally)?;
+            call(&mut copy, &Call::Report, tally)?;
+        }
+        match call(&mut book, &next, tally)? {
+            Some(Given::Ticket(ticket)) => session.tickets.push(ticket),
+            Some(Given::Position(_, position, _)) => session.position = position,
+            _ => (),
+        }
+    }
+    Ok(())
+}
+
+/// The next call of a session: mostly the sensible one, sometimes late, and sometimes with anything for an argument.
+fn next_call(random: &mut Random, book: &Book, session: &Session, patience: u64) -> Call {
+    let tick = tick(random, book, patience);
+    let newest = session.tickets.last().copied().unwrap_or(0);
+    let ticket = match random.below(12) {
+        0 if !session.tickets.is_empty() => session.tickets[random.below(session.tickets.len())],
+        1 => random.near(&[0, newest, book.issued]),
+        2 => book.ticket[random.below(32)],
+        _ => newest,
+    };
+    let stands = (0..32).find(|j| ticket != 0 && book.ticket[*j] == ticket);
+    match random.weighted(if stands.is_none() { &[8, 1, 2, 1, 1] } else { &[1, 3, 7, 1, 1] }) {
+        0 => Call::Claim { tick, share: share(random, book), length: length(random, patience) },
+        1 => Call::Take { tick, ticket, lists: Lists::any(random, book.size as usize) },
+        2 => {
+            let position = match (random.below(8), stands) {
+                (0, _) => random.near(&[session.position, session.position + 1]),
+                (1, Some(j)) => random.near(&[book.next[j]]),
+                (2, _) | (_, None) => session.position,
+                (_, Some(j)) => book.next[j],
+            };
+            Call::Commit { tick, ticket, position }
+        }
+        3 => Call::Release { tick, ticket },
+        _ => Call::Report,
+    }
+}
+
+/// A tick: mostly now or soon, sometimes after tickets have lapsed, at an expiry or one before it, sometimes past.
+fn tick(random: &mut Random, book: &Book, patience: u64) -> u64 {
+    let latest = book.latest;
+    match random.below(40) {
+        0 => random.near(&[latest, 1 << 48]),
+        1 | 2 => latest.saturating_sub(1 + random.between(0, 3)),
+        3 | 4 => latest + random.between(0, 2 * patience),
+        5..=8 => {
+            let expiry = book.expiry[random.below(book.shares as usize)];
+            expiry.saturating_sub(random.between(0, 2)).max(latest)
+        }
+        9 => latest + patience,
+        10..=15 => latest + 1,
+        _ => latest,
+    }
+}
+
+/// A share: mostly one that is free and not finished.
+fn share(random: &mut Random, book: &Book) -> u64 {
+    let count = u128::from(reference::count(book.size).expect("an opened book"));
+    let last = |share: u64| (u128::from(share) * count / u128::from(book.shares)) as u64;
+    let place = |share: u64| share as usize - 1;
+    let free = |share: &u64| book.ticket[place(*share)] == 0 && book.next[place(*share)] <= last(*share);
+    let free: Vec<u64> = (1..=book.shares).filter(free).collect();
+    match random.below(12) {
+        0 => random.near(&[0, book.shares]),
+        1 | 2 => random.between(1, book.shares),
+        _ if free.is_empty() => random.between(1, book.shares),
+        _ => random.pick(&free),
+    }
+}
+
+fn length(random: &mut Random, patience: u64) -> u64 {
+    match random.below(16) {
+        0 => random.near(&[0, 1, 65_535]),
+        1 => random.between(1, 65_535),
+        _ => random.between(1, patience),
+    }
+}
+
+/// Alters one to three fields, often to an edge of what is sound.
+fn damage(random: &mut Random, book: &mut Book) {
+    for _ in 0..1 + random.weighted(&[5, 2, 1]) {
+        let (one, other) = (random.below(32), random.below(32));
+        let used = random.below(book.shares.clamp(1, 32) as usize);
+        let j = if random.percent(70) { used } else { one };
+        match random.below(10) {
+            0 => book.size = random.near(&[0, 50, book.size]),
+            1 => book.shares = random.near(&[0, 32, book.shares]),
+            2 => book.latest = random.near(&[1 << 48, book.latest, book.expiry[j].saturating_sub(65_535)]),
+            3 => book.issued = random.near(&[65_535, book.issued, book.ticket[j]]),
+            4 | 5 => book.next[j] = random.near(&[book.next[j], book.next[other], book.next[j].div_ceil(2)]),
+            6 => book.ticket[j] = random.near(&[0, book.issued, book.ticket[j]]),
+            7 => book.ticket[j] = book.ticket[other],
+            8 => book.expiry[j] = random.near(&[0, book.latest.wrapping_add(65_535), book.expiry[j]]),
+            _ => book.expiry[j] = book.expiry[other],
+        }
+    }
+}

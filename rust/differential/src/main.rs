@@ -1,0 +1,145 @@
+//! The proved library against the reference in plain Rust, on random inputs; exit status 1 at the first difference, and where some refusal or
+//! kind of answer never came, so that inputs that do not reach a condition are noticed.
+//!
+//!   differential [--full] [--seed N] [--inputs N]
+//!
+//! A short run compares 50,000 inputs of every operation at least, a full one 1,000,000. The same seed, 1 where none is given, gives the same
+//! inputs on any number of cores.
+#![forbid(unsafe_code)]
+
+mod books;
+mod diagrams;
+mod given;
+mod listed;
+mod lists;
+mod random;
+mod runs;
+mod tally;
+
+use random::Random;
+use std::panic::{catch_unwind, AssertUnwindSafe};
+use std::process::exit;
+use std::sync::atomic::{AtomicUsize, Ordering};
+use std::sync::Mutex;
+use std::time::Instant;
+use std::{env, thread};
+use tally::{Compared, Tally};
+
+const SHORT: u64 = 50_000;
+const FULL: u64 = 1_000_000;
+/// How many inputs of its operations a piece of work compares.
+const PIECE: u64 = 5_000;
+
+type Comparison = fn(&mut Random, &mut Tally) -> Compared;
+
+/// Each comparison with the operations it compares.
+const COMPARISONS: [(Comparison, &[&str]); 19] = [
+    (given::kept, &["kept"]),
+    (given::symmetries, &["symmetries"]),
+    (given::compare_unrooted, &["compare unrooted"]),
+    (given::compare_rooted, &["compare rooted"]),
+    (given::check, &["check"]),
+    (given::all_reached, &["all reached"]),
+    (given::relabel, &["relabel"]),
+    (given::invariants, &["invariants"]),
+    (given::read_word, &["read word"]),
+    (given::lesser, &["lesser"]),
+    (given::letters, &["letters"]),
+    (listed::count, &["count"]),
+    (listed::diagram_at, &["diagram at"]),
+    (listed::position, &["position"]),
+    (listed::plain_walk, &["plain walk"]),
+    (runs::begin, &["begin"]),
+    (runs::steps, &["step"]),
+    (books::open, &["open"]),
+    (books::life, &["claim", "take", "commit", "release", "report"]),
+];
+
+/// The largest size that is run through whole.
+const WHOLE: u16 = 14;
+
+/// A piece of work, by its number: first the whole runs, then every comparison in turn.
+fn piece(number: usize, seed: u64, tally: &mut Tally) -> Compared {
+    let mut random = Random::new(seed, number as u64);
+    if number < usize::from(WHOLE) {
+        return runs::whole(number as u16 + 1, &mut random, tally);
+    }
+    let (comparison, operations) = COMPARISONS[(number - usize::from(WHOLE)) % COMPARISONS.len()];
+    while operations.iter().any(|operation| tally.inputs(operation) < PIECE) {
+        comparison(&mut random, tally)?;
+    }
+    Ok(())
+}
+
+/// Does piece after piece until none is left; at the first difference, or where the binding finds a fault, prints it and ends the program.
+fn work(pieces: usize, seed: u64, next: &AtomicUsize, total: &Mutex<Tally>) {
+    loop {
+        let number = next.fetch_add(1, Ordering::Relaxed);
+        if number >= pieces {
+            return;
+        }
+        let mut tally = Tally::default();
+        match catch_unwind(AssertUnwindSafe(|| piece(number, seed, &mut tally))) {
+            Ok(Ok(())) => total.lock().expect("no thread panics holding it").add(tally),
+            Ok(Err(difference)) => fail(&format!(
+                "DIFFERENCE in {}: seed {seed}, piece {number}\ninput: {}\nlibrary: {}\nreference: {}",
+                difference.operation, difference.input, difference.library, difference.reference
+            )),
+            Err(_) => fail(&format!("FAULT, told above: seed {seed}, piece {number}")),
+        }
+    }
+}
+
+/// Prints a failure and ends the program; a second thread that fails waits for the first.
+fn fail(report: &str) -> ! {
+    static FIRST: Mutex<()> = Mutex::new(());
+    let _first = FIRST.lock();
+    eprintln!("{report}");
+    exit(1)
+}
+
+/// The number of inputs an operation and the seed, from the arguments.
+fn arguments() -> (u64, u64) {
+    let (mut inputs, mut seed) = (SHORT, 1);
+    let mut arguments = env::args().skip(1);
+    while let Some(argument) = arguments.next() {
+        let mut number = || arguments.next().and_then(|value| value.parse().ok());
+        match (argument.as_str(), &mut number) {
+            ("--full", _) => inputs = FULL,
+            ("--seed", number) => seed = number().unwrap_or_else(|| usage()),
+            ("--inputs", number) => inputs = number().unwrap_or_else(|| usage()),
+            _ => usage(),
+        }
+    }
+    (inputs, seed)
+}
+
+fn usage() -> ! {
+    eprintln!("usage: differential [--full] [--seed N] [--inputs N]");
+    exit(2)
+}
+
+fn main() {
+    let (inputs, seed) = arguments();
+    let cores = thread::available_parallelism().map_or(1, usize::from);
+    let started = Instant::now();
+    println!("seed {seed}, {inputs} inputs of every operation at least, {cores} threads");
+    let pieces = usize::from(WHOLE) + COMPARISONS.len() * inputs.div_ceil(PIECE) as usize;
+    let (next, total) = (AtomicUsize::new(0), Mutex::new(Tally::default()));
+    thread::scope(|scope| {
+        for _ in 0..cores {
+            scope.spawn(|| work(pieces, seed, &next, &total));
+        }
+    });
+    let total = total.into_inner().expect("no thread panics holding it");
+    println!("{total}");
+    let complaints = total.complaints();
+    for complaint in &complaints {
+        eprintln!("MISSED: {complaint}");
+    }
+    if !complaints.is_empty() {
+        eprintln!("seed {seed}");
+        exit(1);
+    }
+    println!("no difference, every refusal met, {:.0} seconds", started.elapsed().as_secs_f64());
+}

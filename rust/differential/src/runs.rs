@@ -1,0 +1,106 @@
+//! Runs: beginnings, steps from any place, damaged runs, and whole runs to the end.
+use crate::given::{accepted, outcome};
+use crate::lists::Lists;
+use crate::random::Random;
+use crate::tally::{Compared, Difference, Tally};
+use kaldvemir::Refusal;
+use reference::{Run, Written};
+
+fn library_run(run: &Run) -> kaldvemir::Run {
+    kaldvemir::Run { size: run.size, stage: run.stage, length: run.length, items: run.items }
+}
+
+fn reference_run(run: &kaldvemir::Run) -> Run {
+    Run { size: run.size, stage: run.stage, length: run.length, items: run.items }
+}
+
+pub fn begin(random: &mut Random, tally: &mut Tally) -> Compared {
+    let size = if random.percent(70) { random.between(1, 50) } else { random.near(&[0, 1, 50]) };
+    let library = kaldvemir::Run::begin(size).map_err(Refusal::number).map(|run| reference_run(&run));
+    let reference = Run::begin(size);
+    tally.compare("begin", outcome(&reference, accepted), &library, &reference, &size)
+}
+
+/// One step of both from the same run: compares the answers, the runs and the lists after it, and returns what an accepted step answered.
+fn step(run: &mut Run, before: &Lists, tally: &mut Tally) -> Result<Option<Option<Written>>, Box<Difference>> {
+    let input = (run.clone(), before);
+    let (mut other, mut lists) = (library_run(run), before.clone());
+    let library = other.step(&mut lists.s0, &mut lists.s1, &mut lists.word).map_err(Refusal::number);
+    let reference = run.step(before.rooms());
+    let after = before.after(&reference.as_ref().map(Option::as_ref));
+    let length = reference.as_ref().map(|written| written.as_ref().map(|written| written.word.len())).map_err(|number| *number);
+    let kind = outcome(&reference, |written| if written.is_some() { "diagram" } else { "end" });
+    tally.compare("step", kind, &(library, reference_run(&other), lists), &(length, run.clone(), after), &input)?;
+    Ok(reference.ok())
+}
+
+/// A few steps from anywhere, with damage now and then; a damaged run that is still sound goes on.
+pub fn steps(random: &mut Random, tally: &mut Tally) -> Compared {
+    let mut run = anywhere(random);
+    for _ in 0..1 + random.below(6) {
+        if random.percent(25) {
+            damage(random, &mut run);
+        }
+        let lists = Lists::any(random, run.size.min(60).into());
+        step(&mut run, &lists, tally)?;
+    }
+    Ok(())
+}
+
+/// A sound run: fresh, finished, or at a diagram; often near the ends of the listing.
+fn anywhere(random: &mut Random) -> Run {
+    let size = if random.percent(40) { random.between(1, 9) } else { random.between(1, 50) } as u16;
+    let count = reference::count(size.into()).expect("a size in range");
+    let position = match random.below(10) {
+        0 => return Run { size, stage: 0, length: 0, items: [0; 51] },
+        1 => return Run { size, stage: 2, length: 0, items: [0; 51] },
+        2 => 1,
+        3 => count,
+        4 => count.saturating_sub(random.between(0, 4)).max(1),
+        _ => random.between(1, count),
+    };
+    Run::at(size, position)
+}
+
+fn damage(random: &mut Random, run: &mut Run) {
+    let used = usize::from(run.length).min(50);
+    match random.below(8) {
+        0 => run.size = random.near(&[0, 50, run.size.into()]) as u16,
+        1 => run.stage = random.near(&[0, 1, 2]) as u16,
+        2 => run.length = random.near(&[0, 50, run.length.into()]) as u16,
+        3 => run.items[used] = random.near(&[0, 1]) as u16,
+        4 => run.items[random.below(51)] = random.below(6) as u16,
+        5 => run.items[random.below(51)] = random.near(&[0, 3]) as u16,
+        6 => run.items[random.below(used + 1)] = random.below(8) as u16,
+        // The item that ends the word lies outside it, or one more is in it.
+        _ => run.length = run.length.wrapping_add(random.pick(&[1, u16::MAX])),
+    }
+}
+
+/// A whole run of a size against the listing, with refused steps and steps of damaged copies in between, and to "end" more than once.
+pub fn whole(size: u16, random: &mut Random, tally: &mut Tally) -> Compared {
+    let n = usize::from(size);
+    let mut run = Run::begin(size.into()).expect("a size in range");
+    let mut given = vec![];
+    let mut ends = 0;
+    while ends < 3 {
+        if random.percent(30) {
+            let mut copy = run.clone();
+            damage(random, &mut copy);
+            let lists = Lists::any(random, n);
+            step(&mut copy, &lists, tally)?;
+        }
+        let lists = Lists::any(random, n);
+        match step(&mut run, &lists, tally)? {
+            Some(Some(written)) => given.push(written.word),
+            Some(None) => ends += 1,
+            None => (),
+        }
+    }
+    let listing = reference::all_words(n);
+    if given != listing {
+        let (library, reference) = (format!("{given:?}"), format!("{listing:?}"));
+        return Err(Box::new(Difference { operation: "step", input: format!("a whole run of size {size}"), library, reference }));
+    }
+    Ok(())
+}

@@ -1,0 +1,131 @@
+//! What was compared: per operation the inputs, the answers and the refusals, and the first difference.
+use std::collections::BTreeMap;
+use std::fmt::{self, Debug};
+
+/// What an operation answered: a refusal with its side (0 where there is none), or an accepted call by the kind of its answer.
+#[derive(Clone, Copy, Debug, PartialEq, Eq, PartialOrd, Ord)]
+pub enum Outcome {
+    Accepted(&'static str),
+    Refused(u8, u16),
+}
+
+/// An input that the library and the reference answered unlike.
+#[derive(Debug)]
+pub struct Difference {
+    pub operation: &'static str,
+    pub input: String,
+    pub library: String,
+    pub reference: String,
+}
+
+pub type Compared = Result<(), Box<Difference>>;
+
+/// Every operation with the kinds of its accepted answers and its refusals: each is to be met.
+pub const OPERATIONS: [(&str, &[&str], &[u16]); 23] = [
+    ("check", &["accepted"], GIVEN),
+    ("all reached", &["yes", "no"], &[]),
+    ("relabel", &["accepted"], &[1, 2, 3, 4, 5, 6, 7, 8, 9]),
+    ("compare rooted", &["same", "different"], GIVEN),
+    ("compare unrooted", &["same", "different"], GIVEN),
+    ("symmetries", &["one", "more"], GIVEN),
+    ("kept", &["yes", "no"], GIVEN),
+    ("invariants", &["accepted"], GIVEN),
+    ("read word", &["accepted"], &[21, 22, 23, 24, 25, 26, 9]),
+    ("lesser", &["first", "second"], &[]),
+    ("letters", &["accepted"], &[22, 9]),
+    ("count", &["accepted"], &[31]),
+    ("diagram at", &["accepted"], &[31, 32, 9]),
+    ("position", &["accepted"], &[1, 2, 3, 4, 5, 6, 7, 8, 31]),
+    ("plain walk", &["accepted"], &[35, 9]),
+    ("begin", &["accepted"], &[31]),
+    ("step", &["diagram", "end"], &[34, 9]),
+    ("open", &["accepted"], &[31, 51]),
+    ("claim", &["accepted"], &[50, 52, 53, 54, 55, 56, 57]),
+    ("take", &["accepted"], &[50, 52, 58, 59, 9]),
+    ("commit", &["accepted"], &[50, 52, 58, 59, 60]),
+    ("release", &["accepted"], &[50, 52, 58, 59]),
+    ("report", &["complete", "open"], &[50]),
+];
+
+const GIVEN: &[u16] = &[1, 2, 3, 4, 5, 6, 7, 8];
+
+/// The outcomes of an operation that are to be met. Compare has its refusals on either side.
+fn wanted(name: &str, answers: &[&'static str], refusals: &[u16]) -> Vec<Outcome> {
+    let sides: &[u8] = if name.starts_with("compare") { &[1, 2] } else { &[0] };
+    let refused = sides.iter().flat_map(|side| refusals.iter().map(|number| Outcome::Refused(*side, *number)));
+    answers.iter().map(|answer| Outcome::Accepted(answer)).chain(refused).collect()
+}
+
+#[derive(Default)]
+pub struct Tally {
+    met: BTreeMap<(&'static str, Outcome), u64>,
+}
+
+impl Tally {
+    /// Compares two answers to an input and counts the outcome.
+    pub fn compare<A: PartialEq + Debug>(
+        &mut self, operation: &'static str, outcome: Outcome, library: &A, reference: &A, input: &dyn Debug,
+    ) -> Compared {
+        if library != reference {
+            let (input, library, reference) = (format!("{input:?}"), format!("{library:?}"), format!("{reference:?}"));
+            return Err(Box::new(Difference { operation, input, library, reference }));
+        }
+        *self.met.entry((operation, outcome)).or_default() += 1;
+        Ok(())
+    }
+
+    pub fn inputs(&self, operation: &str) -> u64 {
+        self.met.iter().filter(|((name, _), _)| *name == operation).map(|(_, times)| times).sum()
+    }
+
+    pub fn add(&mut self, other: Tally) {
+        for (key, times) in other.met {
+            *self.met.entry(key).or_default() += times;
+        }
+    }
+
+    fn times(&self, operation: &'static str, outcome: Outcome) -> u64 {
+        self.met.get(&(operation, outcome)).copied().unwrap_or(0)
+    }
+
+    /// The outcomes that 01 allows and that never came, and those that came and are not in the table above.
+    pub fn complaints(&self) -> Vec<String> {
+        let mut complaints = vec![];
+        for (name, answers, refusals) in OPERATIONS {
+            for outcome in wanted(name, answers, refusals) {
+                if self.times(name, outcome) == 0 {
+                    complaints.push(format!("{name}: {outcome:?} never came"));
+                }
+            }
+        }
+        for (name, outcome) in self.met.keys() {
+            let known = OPERATIONS.iter().any(|(known, answers, refusals)| known == name && wanted(name, answers, refusals).contains(outcome));
+            if !known {
+                complaints.push(format!("{name}: {outcome:?} is no answer of this operation"));
+            }
+        }
+        complaints
+    }
+}
+
+/// The table: a line for each operation.
+impl fmt::Display for Tally {
+    fn fmt(&self, out: &mut fmt::Formatter<'_>) -> fmt::Result {
+        writeln!(out, "{:<17}{:>10}{:>10}  answers; refusals", "operation", "compared", "accepted")?;
+        for (name, answers, refusals) in OPERATIONS {
+            let accepted: u64 = answers.iter().map(|answer| self.times(name, Outcome::Accepted(answer))).sum();
+            write!(out, "{name:<17}{:>10}{accepted:>10} ", self.inputs(name))?;
+            for outcome in wanted(name, answers, refusals) {
+                let times = self.times(name, outcome);
+                match outcome {
+                    Outcome::Accepted("accepted") => (),
+                    Outcome::Accepted(answer) => write!(out, " {answer}: {times};")?,
+                    Outcome::Refused(0, number) => write!(out, " {number}: {times}")?,
+                    Outcome::Refused(side, number) => write!(out, " {number} side {side}: {times}")?,
+                }
+            }
+            writeln!(out)?;
+        }
+        Ok(())
+    }
+}

@@ -1,0 +1,125 @@
+//! Refused calls at the boundary: every out-value, list, run and book is left as it was. A mark stands in each of them before the call.
+use super::*;
+
+const MARK: u16 = 0xBEEF;
+const WIDE: u64 = 0xDEAD_BEEF_DEAD_BEEF;
+
+/// A diagram of four edges, 01's (h).
+const DIAGRAM: Lent = (&[1, 3, 4, 2], &[2, 1, 3, 4], 3);
+
+/// Lent diagrams, one for each number from 1 to 8.
+const REFUSED: [Lent; 8] = [
+    (&[], &[], 1),
+    (&[1], &[1, 2], 1),
+    (&[1], &[1], 0),
+    (&[2], &[1], 1),
+    (&[1], &[0], 1),
+    (&[2, 1], &[1, 2], 1),
+    (&[2, 3, 1], &[2, 3, 1], 1),
+    (&[1, 2], &[1, 2], 1),
+];
+
+fn book() -> Book {
+    let mut book = Book { size: WIDE, shares: WIDE, latest: WIDE, issued: WIDE, next: [WIDE; 32], ticket: [WIDE; 32], expiry: [WIDE; 32] };
+    assert_eq!(open(&mut book, 4, 3), 0);
+    book
+}
+
+#[test]
+fn refused_diagrams() {
+    for (number, (s0, s1, root)) in (1..).zip(REFUSED) {
+        assert_eq!(check(s0, s1, root), number);
+        let (mut lists, mut out) = ([[MARK; 8]; 3], WIDE);
+        let [t0, t1, word] = &mut lists;
+        assert_eq!(relabel(s0, s1, root, t0, t1, word, &mut out), number);
+        assert_eq!(symmetries(s0, s1, root, &mut out), number);
+        assert_eq!(kept(s0, s1, root, &mut out), number);
+        assert_eq!(position(s0, s1, root, &mut out), number);
+        assert_eq!((lists, out), ([[MARK; 8]; 3], WIDE));
+        let before = Invariants { e2: MARK, e3: MARK, c: MARK, t: -7, level: MARK };
+        let mut measured = before;
+        assert_eq!(invariants(s0, s1, root, &mut measured), number);
+        assert_eq!(measured, before);
+    }
+}
+
+#[test]
+fn refused_and_accepted_compares() {
+    for compare in [compare_rooted, compare_unrooted] {
+        for (number, refused) in (1..).zip(REFUSED) {
+            let (mut same, mut side) = (WIDE, WIDE);
+            assert_eq!((compare(refused, refused, &mut same, &mut side), same, side), (number, WIDE, 1));
+            assert_eq!((compare(DIAGRAM, refused, &mut same, &mut side), same, side), (number, WIDE, 2));
+        }
+        let (mut same, mut side) = (WIDE, WIDE);
+        assert_eq!((compare(DIAGRAM, DIAGRAM, &mut same, &mut side), same, side), (0, 1, WIDE));
+    }
+}
+
+#[test]
+fn short_lists() {
+    for rooms in [[3, 4, 5], [4, 3, 5], [4, 4, 4]] {
+        let (mut lists, mut out, mut values) = ([[MARK; 5]; 3], WIDE, [WIDE; 3]);
+        let [t0, t1, word] = &mut lists;
+        let (t0, t1, word) = (&mut t0[..rooms[0]], &mut t1[..rooms[1]], &mut word[..rooms[2]]);
+        assert_eq!(relabel(DIAGRAM.0, DIAGRAM.1, DIAGRAM.2, t0, t1, word, &mut out), 9);
+        assert_eq!(diagram_at(4, 1, t0, t1, word, &mut out), 9);
+        let mut run = Run::begin(4).unwrap();
+        assert_eq!((step(&mut run, t0, t1, word, &mut out), run), (9, Run::begin(4).unwrap()));
+        let mut book = book();
+        assert_eq!(book.claim(5, 1, 10), Ok(1));
+        let before = book.clone();
+        assert_eq!((take(&mut book, 6, 1, t0, t1, word, &mut values), book), (9, before));
+        assert_eq!((lists, out, values), ([[MARK; 5]; 3], WIDE, [WIDE; 3]));
+    }
+}
+
+#[test]
+fn refused_words_and_sizes() {
+    let (mut s0, mut s1, mut words, mut letters_out, mut out) = ([MARK; 2], [MARK; 2], [MARK; 1024], [7; 3], WIDE);
+    for (word, number) in [(&[][..], 21), (&[2], 22), (&[0, 3], 23), (&[1, 0], 25), (&[0, 0, 0], 26), (&[1, 0, 0, 0], 9)] {
+        assert_eq!(read_word(word, &mut s0, &mut s1, &mut out), number);
+    }
+    assert_eq!((letters(&[2, 0], &mut letters_out, &mut out), letters(&[1, 0, 0, 0], &mut letters_out, &mut out)), (22, 9));
+    assert_eq!((count(0, &mut out), count(51, &mut out)), (31, 31));
+    assert_eq!((diagram_at(51, 1, &mut s0, &mut s1, &mut words, &mut out), diagram_at(2, 2, &mut s0, &mut s1, &mut words, &mut out)), (31, 32));
+    assert_eq!((plain_walk(10, &mut words, &mut out), plain_walk(9, &mut words[1..], &mut out)), (35, 9));
+    assert_eq!((s0, s1, words, letters_out, out), ([MARK; 2], [MARK; 2], [MARK; 1024], [7; 3], WIDE));
+}
+
+#[test]
+fn refused_runs() {
+    let before = Run { size: MARK, stage: MARK, length: MARK, items: [MARK; 51] };
+    let (mut run, mut lists, mut out) = (before.clone(), [[MARK; 60]; 3], WIDE);
+    assert_eq!((begin(0, &mut run), begin(51, &mut run)), (31, 31));
+    let [s0, s1, word] = &mut lists;
+    assert_eq!(step(&mut run, s0, s1, word, &mut out), 34);
+    assert_eq!((run, lists, out), (before, [[MARK; 60]; 3], WIDE));
+}
+
+#[test]
+fn refused_book_calls() {
+    let mut held = book();
+    assert_eq!(held.claim(5, 1, 10), Ok(1));
+    let mut unsound = held.clone();
+    unsound.ticket[31] = 1;
+    let (mut out, mut other, mut values, mut lists) = (WIDE, WIDE, [WIDE; 3], [[MARK; 5]; 3]);
+    let [s0, s1, word] = &mut lists;
+    for (before, ticks) in [(unsound, [(5, 50), (4, 50), (0, 50)]), (held, [(4, 52), (1 << 48, 52), (15, 59)])] {
+        for (tick, number) in ticks {
+            let mut book = before.clone();
+            let claimed = if number == 59 { 53 } else { number };
+            assert_eq!(claim(&mut book, tick, 0, 1, &mut out), claimed);
+            assert_eq!(take(&mut book, tick, 1, s0, s1, word, &mut values), number);
+            assert_eq!(commit(&mut book, tick, 1, 1), number);
+            assert_eq!(release(&mut book, tick, 1), number);
+            assert_eq!(book, before);
+        }
+    }
+    let mut book = book();
+    let before = book.clone();
+    assert_eq!((open(&mut book, 51, 1), open(&mut book, 50, 33), claim(&mut book, 0, 1, 0, &mut out)), (31, 51, 54));
+    assert_eq!((commit(&mut book, 0, 0, 1), release(&mut book, 0, 9)), (58, 58));
+    assert_eq!(report(&Book::blank(), &mut out, &mut other), 50);
+    assert_eq!((book, out, other, values, lists), (before, WIDE, WIDE, [WIDE; 3], [[MARK; 5]; 3]));
+}

@@ -1,0 +1,75 @@
+//! The binding as a caller uses it: cases of 01, a whole run, and a book worked to its end.
+use kaldvemir::*;
+
+fn text(word: &[u16]) -> String {
+    let mut out = [0; 64];
+    let length = letters(word, &mut out).unwrap();
+    String::from_utf8(out[..length].to_vec()).unwrap()
+}
+
+#[test]
+fn a_given_diagram() {
+    let (s0, s1) = ([1, 3, 4, 2], [2, 1, 3, 4]);
+    let (mut t0, mut t1, mut word) = ([7; 5], [7; 5], [7; 6]);
+    assert_eq!(relabel(&s0, &s1, 3, &mut t0, &mut t1, &mut word), Ok(4));
+    assert_eq!((t0, t1, word, text(&word[..4])), ([2, 3, 1, 4, 7], [1, 2, 4, 3, 7], [1, 2, 0, 0, 7, 7], "TBWW".to_string()));
+    assert_eq!(compare_rooted(&s0, &s1, 3, &t0[..4], &t1[..4], 1), Ok(true));
+    assert_eq!((compare_rooted(&s0, &s1, 2, &t0[..4], &t1[..4], 1), compare_unrooted(&s0, &s1, 2, &t0[..4], &t1[..4], 1)), (Ok(false), Ok(true)));
+    assert_eq!(compare_rooted(&s0, &s1, 3, &t0, &t1, 1), Err(Sided { side: Side::Second, refusal: Refusal::BlackEntryOutside }));
+    assert_eq!((symmetries(&s0, &s1, 3), kept(&s0, &s1, 3), position(&s0, &s1, 3)), (Ok(1), Ok(false), Ok(5)));
+    assert_eq!(invariants(&s0, &s1, 3), Ok(Invariants { e2: 2, e3: 1, c: 1, t: 0, level: 4 }));
+    assert_eq!((check(&[1, 2], &[1, 2], 1), check(&[1], &[1], 65_537)), (Err(Refusal::NotConnected), Err(Refusal::RootOutside)));
+    assert!(all_reached(&[]) && all_reached(&[1, 1]) && !all_reached(&[1, 2]));
+}
+
+#[test]
+fn words() {
+    let (mut s0, mut s1) = ([7; 4], [7; 4]);
+    assert_eq!(read_word(&[1, 4, 0], &mut s0, &mut s1), Ok(3));
+    assert_eq!((s0, s1), ([2, 3, 1, 7], [3, 2, 1, 7]));
+    assert_eq!(read_word(&[1, 0], &mut s0, &mut s1), Err(Refusal::EdgesPending));
+    let (a, b) = ([1, 2], [1, 2, 0]);
+    assert!(std::ptr::eq(lesser(&a, &b), &a[..]) && std::ptr::eq(lesser(&b, &a), &a[..]));
+    assert_eq!(letters(&[1, 13, 1, 2, 0], &mut [0; 6]), Err(Refusal::OutputShort));
+    assert_eq!(text(&[1, 13, 1, 2, 0]), "TJ10FBW");
+}
+
+#[test]
+fn a_whole_run() {
+    let mut run = Run::begin(4).unwrap();
+    let (mut s0, mut s1, mut word) = ([0; 4], [0; 4], [0; 5]);
+    let mut given = vec![];
+    while let Some(length) = run.step(&mut s0, &mut s1, &mut word).unwrap() {
+        given.push(text(&word[..length]));
+        assert_eq!(position(&s0, &s1, 1), Ok(given.len() as u64));
+    }
+    assert_eq!(given, ["UFWW", "UFJ0", "TWWB", "TWBW", "TBWW", "TBJ0", "TJ0B", "TJ1B"]);
+    assert_eq!((run.step(&mut [], &mut [], &mut []), run.stage), (Ok(None), 2));
+    assert_eq!((count(4), count(50), count(51)), (Ok(8), Ok(499877970985660), Err(Refusal::ListedSizeOutside)));
+    assert_eq!((diagram_at(4, 8, &mut s0, &mut s1, &mut word), text(&word[..3])), (Ok(3), "TJ1B".to_string()));
+    assert_eq!(diagram_at(4, 9, &mut s0, &mut s1, &mut word), Err(Refusal::PositionOutside));
+    let mut words = [9; 1025];
+    assert_eq!((plain_walk(3, &mut words), &words[..14]), (Ok(13), &[1, 0, 0, 0, 1, 0, 3, 1, 3, 0, 1, 4, 0, 9][..]));
+}
+
+#[test]
+fn a_book_to_its_end() {
+    let mut book = Book::blank();
+    assert_eq!(book.report(), Err(Refusal::BookUnsound));
+    book.open(4, 3).unwrap();
+    assert_eq!((book.size, book.shares, &book.next[..4]), (4, 3, &[1, 3, 6, 0][..]));
+    let (mut s0, mut s1, mut word) = ([0; 4], [0; 4], [0; 5]);
+    // A session that claims share 2 and wakes at its expiry.
+    let late = book.claim(0, 2, 10).unwrap();
+    assert_eq!((book.commit(9, late, 3), book.commit(10, late, 4)), (Ok(()), Err(Refusal::TicketLapsed)));
+    for share in 1..=3 {
+        let ticket = book.claim(10, share, 10).unwrap();
+        while let Ok(taken) = book.take(10, ticket, &mut s0, &mut s1, &mut word) {
+            assert_eq!((taken.share, position(&s0, &s1, 1)), (share, Ok(taken.position)));
+            assert_eq!(read_word(&word[..taken.length], &mut [0; 4], &mut [0; 4]), Ok(4));
+            book.commit(10, ticket, taken.position).unwrap();
+        }
+    }
+    assert_eq!(book.commit(11, late, 4), Err(Refusal::TicketAbsent));
+    assert_eq!(book.report(), Ok(Report { committed: 8, complete: true }));
+}

@@ -1,0 +1,83 @@
+//! Algorithms of the reference against one another: the listing against all labelled pairs, positions against the listing, runs against both.
+use reference::*;
+use std::collections::BTreeSet;
+
+const ROOMY: Rooms = [50, 50, 51];
+
+/// All lists of 1..n whose every entry is an edge.
+fn lists(n: u16) -> Vec<Vec<u16>> {
+    let mut lists = vec![vec![]];
+    for _ in 0..n {
+        lists = lists.iter().flat_map(|list: &Vec<u16>| (1..=n).map(move |entry| [&list[..], &[entry]].concat())).collect();
+    }
+    lists
+}
+
+/// Every labelled pair of sizes 1 to 6 that check accepts, relabelled, gives exactly the listing; each word (n - 1)! times.
+#[test]
+fn the_listing_is_what_relabelling_gives() {
+    let mut factorial = 1;
+    for n in 1..=6_u16 {
+        let power = |list: &[u16], times: usize| (1..=n).all(|i| (0..times).fold(i, |j, _| list[usize::from(j) - 1]) == i);
+        let blacks: Vec<_> = lists(n).into_iter().filter(|list| power(list, 3)).collect();
+        let whites: Vec<_> = lists(n).into_iter().filter(|list| power(list, 2)).collect();
+        let mut words: Vec<_> = vec![];
+        for s0 in &blacks {
+            words.extend(whites.iter().filter_map(|s1| relabel(s0, s1, 1, ROOMY).ok()).map(|written| written.word));
+        }
+        words.sort();
+        assert_eq!(words.iter().step_by(factorial).cloned().collect::<Vec<_>>(), all_words(n.into()));
+        assert_eq!(words.iter().collect::<BTreeSet<_>>().len() * factorial, words.len());
+        factorial *= usize::from(n);
+    }
+}
+
+#[test]
+fn positions_follow_the_listing() {
+    for n in 1..=12 {
+        for (position, word) in (1..).zip(all_words(n)) {
+            let (s0, s1) = read_word(&word, [50, 50]).unwrap();
+            assert_eq!(diagram_at(n as u64, position, ROOMY), Ok(Written { s0: s0.clone(), s1: s1.clone(), word: word.clone() }));
+            assert_eq!(reference::position(&s0, &s1, 1), Ok(position));
+            assert_eq!(relabel(&s0, &s1, 1, ROOMY), Ok(Written { s0, s1, word }));
+        }
+    }
+}
+
+#[test]
+fn a_run_gives_the_listing_and_ends() {
+    for n in 1..=10 {
+        let mut run = Run::begin(n).unwrap();
+        for word in all_words(n as usize) {
+            assert_eq!(run.step([0, 50, 51]), Err(9));
+            assert_eq!(run.step(ROOMY).unwrap().unwrap().word, word);
+        }
+        assert_eq!(run.step([50, 50, n as usize]), Err(9));
+        assert_eq!((run.step(ROOMY), run.stage), (Ok(None), 2));
+        assert_eq!(run.step([0, 0, 0]), Ok(None));
+        run.items[50] = 1;
+        assert_eq!(run.step(ROOMY), Err(34));
+    }
+}
+
+/// Words compare as isomorphism does, over all pairs of a size; a symmetry is an isomorphism of the diagram with itself.
+#[test]
+fn equal_words_are_isomorphisms() {
+    let diagrams: Vec<_> = all_words(7).iter().map(|word| read_word(word, [7, 7]).unwrap()).collect();
+    for (s0, s1) in &diagrams {
+        let first = (&s0[..], &s1[..], 1);
+        let itself = (1..=7).filter(|x| compare_rooted(first, (s0, s1, *x)) == Ok(true)).count() as u64;
+        assert_eq!(symmetries(s0, s1, 1), Ok(itself));
+        assert_eq!(diagrams.iter().filter(|(t0, t1)| compare_rooted(first, (t0, t1, 1)) == Ok(true)).count(), 1);
+        let class: Vec<_> = diagrams.iter().filter(|(t0, t1)| compare_unrooted(first, (t0, t1, 1)) == Ok(true)).collect();
+        assert_eq!(class.iter().filter(|(t0, t1)| kept(t0, t1, 1) == Ok(true)).count(), 1);
+        assert_eq!(class.len() as u64 * itself, 7);
+    }
+}
+
+#[test]
+fn the_plain_walk_is_the_listing() {
+    assert_eq!(plain_walk(3, 1024), Ok(vec![1, 0, 0, 0, 1, 0, 3, 1, 3, 0, 1, 4, 0]));
+    assert!(plain_walk(9, 1024).unwrap().len() <= 1024);
+    assert_eq!((plain_walk(0, 0), plain_walk(10, 1024), plain_walk(9, 1023)), (Err(35), Err(35), Err(9)));
+}
