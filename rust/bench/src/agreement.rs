@@ -1,12 +1,12 @@
-//! Before anything is timed, the plain functions and the library are given some thousands of the same inputs, good and damaged, and must
+//! Before anything is timed, the library and both baselines are given some thousands of the same inputs, good and damaged, and must
 //! give the same answers, the same lists and the same runs and books.
+use crate::generator::{generate, kept_known};
 use crate::lines::Page;
-use crate::plain::generator::{generate, kept_known};
-use crate::plain::{book, check, invariants, labelling, letters, positions, reading, run};
 use crate::random::{Diagram, Random};
 use crate::raw::{Book, Run};
-use crate::rows::{books::opened, given::words, listing};
-use crate::library;
+use crate::rows::{books::opened, census, given::words, listing, whole};
+use crate::table::count_of;
+use crate::{letters, library, same, tuned};
 use std::fmt::Debug;
 
 pub fn all() {
@@ -17,10 +17,11 @@ pub fn all() {
     runs(&mut random);
     books(&mut random);
     lists();
-    census();
+    sums();
+    censuses();
 }
 
-fn same<T: PartialEq + Debug>(what: &str, library: T, plain: T) {
+fn equal<T: PartialEq + Debug>(what: &str, library: T, plain: T) {
     assert!(library == plain, "{what}: the library gives\n{library:?}\nand plain Rust\n{plain:?}");
 }
 
@@ -46,7 +47,7 @@ fn agree<T: PartialEq + Debug>(
 ) {
     let (mut a, mut b) = (outputs.clone(), outputs);
     let (x, y) = (library(&mut a), plain(&mut b));
-    same(what, (x, a), (y, b));
+    equal(what, (x, a), (y, b));
 }
 
 fn damage(random: &mut Random, d: &mut Diagram) {
@@ -78,16 +79,24 @@ fn given(random: &mut Random) {
             damage(random, &mut d);
         }
         let Diagram { s0, s1, root } = &d;
-        same("check", library::check(s0, s1, *root), check::check(s0, s1, *root));
-        same("invariants", library::invariants(s0, s1, *root), invariants::invariants(s0, s1, *root));
-        same("kept", library::kept(s0, s1, *root), labelling::kept(s0, s1, *root));
-        same("position", library::position(s0, s1, *root), positions::position(s0, s1, *root));
+        let by_library = library::check(s0, s1, *root);
+        equal("check", &by_library, &same::check::check(s0, s1, *root));
+        equal("check", &by_library, &tuned::check::check(s0, s1, *root));
+        let by_library = library::invariants(s0, s1, *root);
+        equal("invariants", &by_library, &same::invariants::invariants(s0, s1, *root));
+        equal("invariants", &by_library, &tuned::invariants::invariants(s0, s1, *root));
+        let by_library = library::kept(s0, s1, *root);
+        equal("kept", &by_library, &same::labelling::kept(s0, s1, *root));
+        equal("kept", &by_library, &tuned::labelling::kept(s0, s1, *root));
+        let by_library = library::position(s0, s1, *root);
+        equal("position", &by_library, &same::positions::position(s0, s1, *root));
+        equal("position", &by_library, &tuned::positions::position(s0, s1, *root));
         let out = outputs(random, n);
         let by_library = |o: &mut Outputs| library::relabel(s0, s1, *root, &mut o.s0, &mut o.s1, &mut o.word);
-        let by_array = |o: &mut Outputs| labelling::relabel(s0, s1, *root, &mut o.s0, &mut o.s1, &mut o.word);
-        let by_ring = |o: &mut Outputs| labelling::relabel_by_ring(s0, s1, *root, &mut o.s0, &mut o.s1, &mut o.word);
-        agree("relabel", out.clone(), by_library, by_array);
-        agree("relabel", out, by_library, by_ring);
+        let by_same = |o: &mut Outputs| same::labelling::relabel(s0, s1, *root, &mut o.s0, &mut o.s1, &mut o.word);
+        let by_tuned = |o: &mut Outputs| tuned::labelling::relabel(s0, s1, *root, &mut o.s0, &mut o.s1, &mut o.word);
+        agree("relabel", out.clone(), by_library, by_same);
+        agree("relabel", out, by_library, by_tuned);
     }
 }
 
@@ -105,19 +114,19 @@ fn read(random: &mut Random) {
         }
         let out = outputs(random, n);
         let by_library = |o: &mut Outputs| library::read_word(&word, &mut o.s0, &mut o.s1);
-        agree("read word", out.clone(), by_library, |o| reading::read_word(&word, &mut o.s0, &mut o.s1));
-        agree("read word", out, by_library, |o| reading::read_word_by_ring(&word, &mut o.s0, &mut o.s1));
+        agree("read word", out.clone(), by_library, |o| same::reading::read_word(&word, &mut o.s0, &mut o.s1));
+        agree("read word", out, by_library, |o| tuned::reading::read_word(&word, &mut o.s0, &mut o.s1));
         let room = vec![7u8; random.below(4 * word.len() as u64 + 2) as usize];
         let (mut a, mut b) = (room.clone(), room);
-        same("letters", library::letters(&word, &mut a), letters::letters(&word, &mut b));
-        same("letters", a, b);
+        equal("letters", library::letters(&word, &mut a), letters::letters(&word, &mut b));
+        equal("letters", a, b);
     }
 }
 
 fn at_positions(random: &mut Random) {
     for _ in 0..6000 {
         let size = random.below(53);
-        let total = if (1..=50).contains(&size) { positions::count_of(size as usize) } else { 1 };
+        let total = if (1..=50).contains(&size) { count_of(size as usize) } else { 1 };
         let position = match random.below(8) {
             0 => 0,
             1 => total,
@@ -125,27 +134,27 @@ fn at_positions(random: &mut Random) {
             _ => 1 + random.below(total),
         };
         let out = outputs(random, size as usize);
-        agree(
-            "diagram at a position",
-            out,
-            |o| library::diagram_at(size, position, &mut o.s0, &mut o.s1, &mut o.word),
-            |o| positions::diagram_at(size, position, &mut o.s0, &mut o.s1, &mut o.word),
-        );
+        let by_library = |o: &mut Outputs| library::diagram_at(size, position, &mut o.s0, &mut o.s1, &mut o.word);
+        let by_same = |o: &mut Outputs| same::positions::diagram_at(size, position, &mut o.s0, &mut o.s1, &mut o.word);
+        let by_tuned = |o: &mut Outputs| tuned::positions::diagram_at(size, position, &mut o.s0, &mut o.s1, &mut o.word);
+        agree("diagram at a position", out.clone(), by_library, by_same);
+        agree("diagram at a position", out, by_library, by_tuned);
     }
 }
 
+type Step = fn(&mut Run, &mut [u16], &mut [u16], &mut [u16]) -> Result<usize, u16>;
+
 fn one_step(random: &mut Random, start: &Run, out: usize) -> Run {
     let out = outputs(random, out);
-    let by_library = |o: &mut Outputs| {
-        let mut run = *start;
-        (library::step(&mut run, &mut o.s0, &mut o.s1, &mut o.word), run)
+    let by = |step: Step| {
+        move |o: &mut Outputs| {
+            let mut run = *start;
+            (step(&mut run, &mut o.s0, &mut o.s1, &mut o.word), run)
+        }
     };
-    let by_plain = |o: &mut Outputs| {
-        let mut run = *start;
-        (run::step(&mut run, &mut o.s0, &mut o.s1, &mut o.word), run)
-    };
-    agree("step", out.clone(), by_library, by_plain);
-    by_plain(&mut out.clone()).1
+    agree("step", out.clone(), by(library::step), by(same::run::step));
+    agree("step", out.clone(), by(library::step), by(tuned::run::step));
+    by(library::step)(&mut out.clone()).1
 }
 
 fn runs(random: &mut Random) {
@@ -158,7 +167,7 @@ fn runs(random: &mut Random) {
     }
     for _ in 0..6000 {
         let size = 1 + random.below(50) as usize;
-        let mut run = listing::run_at(size, 1 + random.below(positions::count_of(size)));
+        let mut run = listing::run_at(size, 1 + random.below(count_of(size)));
         match random.below(8) {
             0 => run.size = random.below(53) as u16,
             1 => run.stage = random.below(4) as u16,
@@ -184,34 +193,44 @@ fn spoil(random: &mut Random, book: &mut Book) {
     }
 }
 
+/// The calls of one side.
+struct Calls {
+    claim: fn(&mut Book, u64, u64, u64) -> Result<u64, u16>,
+    take: fn(&mut Book, u64, u64, &mut [u16], &mut [u16], &mut [u16]) -> Result<library::Taken, u16>,
+    commit: fn(&mut Book, u64, u64, u64) -> Result<(), u16>,
+}
+
+const LIBRARY: Calls = Calls { claim: library::claim, take: library::take, commit: library::commit };
+const SAME: Calls = Calls { claim: same::book::claim, take: same::book::take, commit: same::book::commit };
+const TUNED: Calls = Calls { claim: tuned::book::claim, take: tuned::book::take, commit: tuned::book::commit };
+
 /// One call on a copy of the book for each side; returns the book as the call left it.
 fn one_call(random: &mut Random, book: &Book, tick: u64) -> Book {
-    let (mut a, mut b) = (*book, *book);
     let share = random.below(book.shares + 2);
     let ticket = match random.below(4) {
         0 => random.below(book.issued + 2),
         _ => book.ticket[random.below(32) as usize],
     };
-    match random.below(3) {
-        0 => {
-            let length = [0, 1, 10, 65_535, 65_536][random.below(5) as usize];
-            same("claim", library::claim(&mut a, tick, share, length), book::claim(&mut b, tick, share, length));
+    let length = [0, 1, 10, 65_535, 65_536][random.below(5) as usize];
+    let held = book.ticket.iter().position(|&t| t == ticket).unwrap_or(0);
+    let position = book.next[held] + (random.below(8) == 0) as u64;
+    let out = outputs(random, book.size as usize);
+    let call = random.below(3);
+    let by = |calls: Calls| {
+        move |o: &mut Outputs| {
+            let mut b = *book;
+            let answer = match call {
+                0 => (calls.claim)(&mut b, tick, share, length).map(|ticket| [ticket, 0, 0]),
+                1 => (calls.take)(&mut b, tick, ticket, &mut o.s0, &mut o.s1, &mut o.word).map(|t| [t.share, t.position, t.length as u64]),
+                _ => (calls.commit)(&mut b, tick, ticket, position).map(|()| [0; 3]),
+            };
+            (answer, b)
         }
-        1 => {
-            let out = outputs(random, book.size as usize);
-            let (mut x, mut y) = (out.clone(), out);
-            let taken = library::take(&mut a, tick, ticket, &mut x.s0, &mut x.s1, &mut x.word);
-            same("take", taken, book::take(&mut b, tick, ticket, &mut y.s0, &mut y.s1, &mut y.word));
-            same("take", x, y);
-        }
-        _ => {
-            let held = book.ticket.iter().position(|&t| t == ticket).unwrap_or(0);
-            let position = book.next[held] + (random.below(8) == 0) as u64;
-            same("commit", library::commit(&mut a, tick, ticket, position), book::commit(&mut b, tick, ticket, position));
-        }
-    }
-    same("book", a, b);
-    a
+    };
+    let what = ["claim", "take", "commit"][call as usize];
+    agree(what, out.clone(), by(LIBRARY), by(SAME));
+    agree(what, out.clone(), by(LIBRARY), by(TUNED));
+    by(LIBRARY)(&mut out.clone()).1
 }
 
 fn books(random: &mut Random) {
@@ -236,17 +255,28 @@ fn lists() {
         let (mut s0, mut s1, mut word) = (vec![0; size], vec![0; size], vec![0; size + 1]);
         generate(size, |t0, t1, w| {
             let length = library::step(&mut run, &mut s0, &mut s1, &mut word).unwrap();
-            same("whole list", (&s0[..], &s1[..], &word[..length]), (t0, t1, w));
-            same("keep mark", library::kept(&s0, &s1, 1), Ok(kept_known(t0, t1, w)));
+            equal("whole list", (&s0[..], &s1[..], &word[..length]), (t0, t1, w));
+            equal("keep mark", library::kept(&s0, &s1, 1), Ok(kept_known(t0, t1, w)));
         });
-        same("whole list's end", library::step(&mut run, &mut s0, &mut s1, &mut word), Ok(0));
+        equal("whole list's end", library::step(&mut run, &mut s0, &mut s1, &mut word), Ok(0));
     }
 }
 
-fn census() {
+/// The sums that whole lists are timed with.
+fn sums() {
+    equal("whole list", whole::by_steps(13), whole::by_generator(13));
+    equal("whole list with keep marks", whole::marked_by_steps(13), whole::marked_by_generator(13));
+}
+
+fn censuses() {
     for size in [1, 2, 3, 4, 9, 13] {
-        let (mut a, mut b) = (Page::new(Some(Vec::new())), Page::new(Some(Vec::new())));
-        same("census", listing::census_by_library(size, &mut a), listing::census_by_generator(size, &mut b));
-        same("census", a.kept.map(String::from_utf8), b.kept.map(String::from_utf8));
+        let page = || Page::new(Some(Vec::new()));
+        let (mut a, mut b, mut c) = (page(), page(), page());
+        let kept = census::by_steps(&census::LIBRARY, size, &mut a);
+        equal("census", kept, census::by_steps(&census::SAME, size, &mut b));
+        equal("census", kept, census::by_generator(size, &mut c));
+        let [a, b, c] = [a, b, c].map(|page| page.kept.map(String::from_utf8));
+        equal("census", &a, &b);
+        equal("census", &a, &c);
     }
 }

@@ -1,7 +1,21 @@
-//! The library's operations with the signatures of the plain ones: an answer, or the number of the refusal.
-use crate::plain::book::Taken;
-use crate::plain::invariants::Numbers;
+//! The library's operations with the signatures of the baselines: an answer, or the number of the refusal.
 use crate::raw::{self, Book, Run};
+
+#[derive(Clone, Copy, PartialEq, Debug)]
+pub struct Numbers {
+    pub e2: u16,
+    pub e3: u16,
+    pub c: u16,
+    pub t: i32,
+    pub level: u16,
+}
+
+#[derive(Clone, Copy, PartialEq, Debug)]
+pub struct Taken {
+    pub share: u64,
+    pub position: u64,
+    pub length: usize,
+}
 
 fn answered<T>(number: u16, value: T) -> Result<T, u16> {
     if number == 0 {

@@ -1,6 +1,6 @@
-//! A line of the census from its parts. Both sides use this, so that the row of the census compares how the parts are found.
-use crate::plain::invariants::Numbers;
-use crate::plain::letters::put_decimal;
+//! A line of the census from its parts. All sides use this, so that the row of the census compares how the parts are found.
+use crate::letters::put_decimal;
+use crate::library::Numbers;
 
 /// No line is longer.
 pub const LINE: usize = 1024;

@@ -1,5 +1,5 @@
 //! Repeatable random numbers (splitmix64), and random diagrams.
-use crate::plain::check::check;
+use crate::tuned::check::check;
 
 pub struct Random(pub u64);
 

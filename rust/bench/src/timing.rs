@@ -1,4 +1,4 @@
-//! One row of the table: the library and plain Rust do the same work in turn, A B A B, on the same inputs.
+//! One row of the table: the library and the baselines do the same work in turn, A B C A B C, on the same inputs.
 //! Time is the thread's processor time, so that other programs on the machine disturb it little.
 use std::time::Duration;
 
@@ -9,10 +9,10 @@ pub struct Row {
     pub name: &'static str,
     /// How many calls a piece of work makes.
     pub calls: u64,
-    /// The most that the library's time may be, as a multiple of the plain time.
+    /// The most that the library's time may be, as a multiple of the baseline's.
     pub bar: f64,
-    pub library: Work,
-    pub plain: Work,
+    /// The library, the baseline that the bar is set by and, if there is one, the tuned one.
+    pub sides: Vec<Work>,
 }
 
 pub struct Plan {
@@ -20,11 +20,8 @@ pub struct Plan {
     pub least: Duration,
 }
 
-/// The calls' times in nanoseconds, of every repeat.
-pub struct Times {
-    library: Vec<f64>,
-    plain: Vec<f64>,
-}
+/// For each side the calls' times in nanoseconds, of every repeat.
+pub type Times = Vec<Vec<f64>>;
 
 #[repr(C)]
 struct Timespec {
@@ -56,7 +53,7 @@ fn time(work: &mut Work, rounds: u64) -> (Duration, u64) {
     (now() - start, sum)
 }
 
-/// How many rounds the slower of the two needs for the least time of a repeat.
+/// How many rounds a piece of work needs for the least time of a repeat.
 fn rounds(work: &mut Work, least: Duration) -> u64 {
     let mut rounds = 1;
     loop {
@@ -68,19 +65,18 @@ fn rounds(work: &mut Work, least: Duration) -> u64 {
     }
 }
 
+/// Runs every side and returns the times, once it is seen that they answer alike.
+fn round(row: &mut Row, rounds: u64) -> Vec<f64> {
+    let results: Vec<(Duration, u64)> = row.sides.iter_mut().map(|side| time(side, rounds)).collect();
+    assert!(results.iter().all(|r| r.1 == results[0].1), "{}: the library and plain Rust answer differently", row.name);
+    results.iter().map(|r| r.0.as_nanos() as f64 / (rounds * row.calls) as f64).collect()
+}
+
 pub fn measure(row: &mut Row, plan: &Plan) -> Times {
-    let (a, b) = ((row.library)(), (row.plain)());
-    assert_eq!(a, b, "{}: the library and plain Rust answer differently", row.name);
-    let rounds = rounds(&mut row.library, plan.least).max(rounds(&mut row.plain, plan.least));
-    let mut times = Times { library: Vec::new(), plain: Vec::new() };
-    for _ in 0..plan.repeats {
-        let (spent, a) = time(&mut row.library, rounds);
-        times.library.push(spent.as_nanos() as f64 / (rounds * row.calls) as f64);
-        let (spent, b) = time(&mut row.plain, rounds);
-        times.plain.push(spent.as_nanos() as f64 / (rounds * row.calls) as f64);
-        assert_eq!(a, b, "{}: the library and plain Rust answer differently", row.name);
-    }
-    times
+    round(row, 1);
+    let rounds = row.sides.iter_mut().map(|side| rounds(side, plan.least)).max().expect("a row has sides");
+    let repeats: Vec<Vec<f64>> = (0..plan.repeats).map(|_| round(row, rounds)).collect();
+    (0..row.sides.len()).map(|side| repeats.iter().map(|r| r[side]).collect()).collect()
 }
 
 fn sorted(mut list: Vec<f64>) -> Vec<f64> {
@@ -93,17 +89,24 @@ fn median(list: &[f64]) -> f64 {
 }
 
 pub fn print_header() {
-    println!("{:<44} {:>12} {:>12} {:>7} {:>14} {:>5}", "operation", "library ns", "plain ns", "ratio", "least..most", "bar");
+    println!(
+        "{:<32} {:>11} {:>11} {:>6} {:>12} {:>4} {:<6} {:>11} {:>6}",
+        "operation", "library ns", "baseline", "ratio", "least..most", "bar", "", "tuned", "ratio"
+    );
 }
 
 /// Prints the row and returns whether the bar is met: the ratio of the medians, and the least and the greatest ratio of a repeat.
 pub fn print(row: &Row, times: &Times) -> bool {
-    let (library, plain) = (median(&times.library), median(&times.plain));
-    let ratio = library / plain;
-    let ratios = sorted(times.library.iter().zip(&times.plain).map(|(a, b)| a / b).collect());
+    let (library, baseline) = (median(&times[0]), median(&times[1]));
+    let ratio = library / baseline;
+    let ratios = sorted(times[0].iter().zip(&times[1]).map(|(a, b)| a / b).collect());
     let spread = format!("{:.2}..{:.2}", ratios[0], ratios[ratios.len() - 1]);
     let met = ratio <= row.bar;
     let verdict = if met { "met" } else { "MISSED" };
-    println!("{:<44} {:>12.1} {:>12.1} {:>7.2} {:>14} {:>5} {}", row.name, library, plain, ratio, spread, row.bar, verdict);
+    print!("{:<32} {library:>11.1} {baseline:>11.1} {ratio:>6.2} {spread:>12} {:>4} {verdict:<6}", row.name, row.bar);
+    match times.get(2).map(|t| median(t)) {
+        Some(tuned) => println!(" {tuned:>11.1} {:>6.2}", library / tuned),
+        None => println!(),
+    }
     met
 }

@@ -1,10 +1,9 @@
 //! The share book of size 24. In each row a ticket stands at every share, so that the test for equal tickets has all its work.
 use super::row;
-use crate::plain::book;
-use crate::plain::book::Taken;
+use crate::library::Taken;
 use crate::raw::Book;
 use crate::timing::Row;
-use crate::library;
+use crate::{library, same, tuned};
 use std::hint::black_box;
 
 const CALLS: u64 = 30_000;
@@ -23,7 +22,7 @@ pub fn opened(size: u64, shares: u64) -> Book {
 fn claimed(shares: u64) -> Book {
     let mut book = opened(24, shares);
     for share in 1..=shares {
-        book::claim(&mut book, 1, share, 60_000).unwrap();
+        library::claim(&mut book, 1, share, 60_000).unwrap();
     }
     book
 }
@@ -41,7 +40,7 @@ fn claim(name: &'static str, shares: u64) -> Row {
             book.issued + book.expiry[0]
         }
     };
-    row(name, CALLS, 1.5, work(library::claim), work(book::claim))
+    row(name, CALLS, work(library::claim), work(same::book::claim), work(tuned::book::claim))
 }
 
 fn take(name: &'static str, shares: u64) -> Row {
@@ -59,7 +58,7 @@ fn take(name: &'static str, shares: u64) -> Row {
             sum
         }
     };
-    row(name, CALLS, 1.5, work(library::take), work(book::take))
+    row(name, CALLS, work(library::take), work(same::book::take), work(tuned::book::take))
 }
 
 fn commit(name: &'static str, shares: u64) -> Row {
@@ -76,7 +75,7 @@ fn commit(name: &'static str, shares: u64) -> Row {
             book.next.iter().sum::<u64>() + book.latest
         }
     };
-    row(name, CALLS, 1.5, work(library::commit), work(book::commit))
+    row(name, CALLS, work(library::commit), work(same::book::commit), work(tuned::book::commit))
 }
 
 pub fn claim_32() -> Row {

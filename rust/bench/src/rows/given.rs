@@ -1,7 +1,8 @@
 //! Given diagrams: 1,024 edges, and 50.
 use super::row;
-use crate::plain::{check as plain_check, labelling, positions, reading};
+use crate::{same, tuned};
 use crate::random::{Diagram, Random};
+use crate::table::count_of;
 use crate::timing::Row;
 use crate::library;
 use std::hint::black_box;
@@ -17,10 +18,10 @@ pub fn large(count: usize) -> Rc<Vec<Diagram>> {
 /// Random diagrams of the list of 50, their edges numbered anew.
 pub fn listed(count: usize) -> Rc<Vec<Diagram>> {
     let mut random = Random(2);
-    let total = positions::count_of(50);
+    let total = count_of(50);
     let drawn = (0..count).map(|_| {
         let mut d = Diagram { s0: vec![0; 50], s1: vec![0; 50], root: 1 };
-        positions::diagram_at(50, 1 + random.below(total), &mut d.s0, &mut d.s1, &mut [0; 51]).unwrap();
+        tuned::positions::diagram_at(50, 1 + random.below(total), &mut d.s0, &mut d.s1, &mut [0; 51]).unwrap();
         random.renumbered(&d)
     });
     Rc::new(drawn.collect())
@@ -36,10 +37,10 @@ pub fn check() -> Row {
         let inputs = inputs.clone();
         move || inputs.iter().map(|d| f(black_box(&d.s0), &d.s1, d.root).is_ok() as u64).sum()
     };
-    row("check 1024", 64, 1.5, work(library::check), work(plain_check::check))
+    row("check 1024", 64, work(library::check), work(same::check::check), work(tuned::check::check))
 }
 
-fn relabel(name: &'static str, inputs: Rc<Vec<Diagram>>, plain: Relabel) -> Row {
+fn relabel(name: &'static str, inputs: Rc<Vec<Diagram>>) -> Row {
     let n = inputs[0].s0.len();
     let work = |f: Relabel| {
         let inputs = inputs.clone();
@@ -53,33 +54,30 @@ fn relabel(name: &'static str, inputs: Rc<Vec<Diagram>>, plain: Relabel) -> Row 
             sum as u64
         }
     };
-    row(name, inputs.len() as u64, 1.5, work(library::relabel), work(plain))
+    let calls = inputs.len() as u64;
+    row(name, calls, work(library::relabel), work(same::labelling::relabel), work(tuned::labelling::relabel))
 }
 
 pub fn relabel_large() -> Row {
-    relabel("relabel 1024, plain by array", large(64), labelling::relabel)
-}
-
-pub fn relabel_by_ring() -> Row {
-    relabel("relabel 1024, plain by ring", large(64), labelling::relabel_by_ring)
+    relabel("relabel 1024", large(64))
 }
 
 pub fn relabel_listed() -> Row {
-    relabel("relabel 50", listed(1000), labelling::relabel)
+    relabel("relabel 50", listed(1000))
 }
 
 pub fn words(inputs: &[Diagram]) -> Vec<Vec<u16>> {
     let word = |d: &Diagram| {
         let n = d.s0.len();
         let mut word = vec![0; n + 1];
-        let length = labelling::relabel(&d.s0, &d.s1, d.root, &mut vec![0; n], &mut vec![0; n], &mut word).unwrap();
+        let length = tuned::labelling::relabel(&d.s0, &d.s1, d.root, &mut vec![0; n], &mut vec![0; n], &mut word).unwrap();
         word.truncate(length);
         word
     };
     inputs.iter().map(word).collect()
 }
 
-fn reading(name: &'static str, plain: ReadWord) -> Row {
+pub fn read_word() -> Row {
     let inputs = Rc::new(words(&large(64)));
     let work = |f: ReadWord| {
         let inputs = inputs.clone();
@@ -93,13 +91,5 @@ fn reading(name: &'static str, plain: ReadWord) -> Row {
             sum as u64
         }
     };
-    row(name, 64, 1.5, work(library::read_word), work(plain))
-}
-
-pub fn read_word() -> Row {
-    reading("read word 1024, plain by array", reading::read_word)
-}
-
-pub fn read_word_by_ring() -> Row {
-    reading("read word 1024, plain by ring", reading::read_word_by_ring)
+    row("read word 1024", 64, work(library::read_word), work(same::reading::read_word), work(tuned::reading::read_word))
 }

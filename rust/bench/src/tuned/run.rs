@@ -1,7 +1,7 @@
 //! A run's step: the word that follows, from the heights alone, and its diagram.
-use super::positions::listed;
 use super::spelling::spell;
 use crate::raw::Run;
+use crate::table::{ends, listed};
 
 /// The length of the word written, 0 at the end.
 pub fn step(run: &mut Run, s0: &mut [u16], s1: &mut [u16], word: &mut [u16]) -> Result<usize, u16> {
@@ -60,16 +60,6 @@ fn is_word(word: &[u16], n: usize) -> bool {
         f = f.wrapping_sub(COST[kind]);
     }
     good & (h == 0) & (f == 0)
-}
-
-/// Whether the word can be ended: apart from an emptied stack, one pending label with two labels left is the only dead end.
-#[inline(always)]
-pub fn ends(h: usize, f: usize) -> bool {
-    match h {
-        0 => f == 0,
-        1 => f != 2,
-        _ => true,
-    }
 }
 
 /// Moves a sound run, fresh or at a diagram, to the next word; false, and the run as it was, after the last.

@@ -1,5 +1,5 @@
 //! The diagram of a listed word, event by event, straight into the lists.
-use super::pending::{Array, Pending, Pile, Stack};
+use super::pending::Pile;
 use super::SMALL;
 
 pub struct Speller<'a> {
@@ -70,8 +70,8 @@ impl<'a> Speller<'a> {
 
 /// Writes the diagram of a whole word of a listed size.
 pub fn spell(word: &[u16], s0: &mut [u16], s1: &mut [u16]) {
-    let mut room = Array::<SMALL>::room();
-    let mut speller = Speller::new(s0, s1, Array::over(&mut room), word[0]);
+    let mut room = [0; SMALL];
+    let mut speller = Speller::new(s0, s1, Pile::over(&mut room), word[0]);
     for &item in &word[1..] {
         speller.event(item);
     }

@@ -1,10 +1,10 @@
 //! Vidal's recursive generator (document 000, section 3) for one size: `dispatch` branches on the events, `recurse` ends or pops. It carries
 //! s0, s1, the word and the pending ring along and undoes what it did; masking and revealing a pending edge are the source's. Branches
 //! that lead to no diagram of the size are left at once.
-use super::labelling::{Bits, Rooting};
-use super::pending::{Array, Pending};
-use super::run::ends;
-use super::{MAX_LISTED, SMALL};
+use crate::table::{ends, MAX_LISTED};
+use crate::tuned::labelling::{Bits, Rooting};
+use crate::tuned::pending::Pile;
+use crate::tuned::SMALL;
 
 const ROOM: usize = MAX_LISTED + 4;
 
@@ -143,6 +143,6 @@ impl<F: FnMut(&[u16], &[u16], &[u16])> Generator<F> {
 
 /// The keep mark of a diagram whose word is known, in its characteristic labelling.
 pub fn kept_known(s0: &[u16], s1: &[u16], word: &[u16]) -> bool {
-    let mut room = Array::<SMALL>::room();
-    Rooting::<Bits, _>::new(s0, s1, Array::over(&mut room)).least(1, word)
+    let mut room = [0; SMALL];
+    Rooting::<Bits, SMALL>::new(s0, s1, Pile::over(&mut room)).least(1, word)
 }

@@ -1,18 +1,13 @@
 //! The share book's claim, take and commit, on the book in its place.
-use super::positions::{count_of, diagram_at, listed};
+use super::positions::diagram_at;
+use crate::library::Taken;
 use crate::raw::Book;
+use crate::table::{count_of, listed};
 
 const MAX_SHARES: usize = 32;
 const MAX_ISSUED: u64 = 65_535;
 const MAX_LENGTH: u64 = 65_535;
 const TICKS: u64 = 1 << 48;
-
-#[derive(Clone, Copy, PartialEq, Debug)]
-pub struct Taken {
-    pub share: u64,
-    pub position: u64,
-    pub length: usize,
-}
 
 /// The last positions of shares 1, 2, and so on: floor(j N / k), with one division for all of them.
 struct Lasts {

@@ -1,15 +1,8 @@
 //! The invariants of a diagram, and of one that is known to be one.
 use super::check::check;
-use super::{MAX_SIZE, SMALL};
-
-#[derive(Clone, Copy, PartialEq, Debug)]
-pub struct Numbers {
-    pub e2: u16,
-    pub e3: u16,
-    pub c: u16,
-    pub t: i32,
-    pub level: u16,
-}
+use super::SMALL;
+use crate::library::Numbers;
+use crate::table::MAX_SIZE;
 
 pub fn invariants(s0: &[u16], s1: &[u16], root: u64) -> Result<Numbers, u16> {
     check(s0, s1, root)?;

@@ -1,11 +1,12 @@
 //! Read word.
-use super::pending::{Array, Linked, Pending, Stack};
-use super::{MAX_SIZE, SMALL};
+use super::pending::Pile;
+use super::SMALL;
+use crate::table::MAX_SIZE;
 
-struct Reader<'a, S, const N: usize> {
+struct Reader<'a, const N: usize> {
     x0: &'a mut [u16; N],
     x1: &'a mut [u16; N],
-    pending: S,
+    pending: Pile<'a, N>,
     used: u16,
 }
 
@@ -15,23 +16,15 @@ pub fn read_word(word: &[u16], s0: &mut [u16], s1: &mut [u16]) -> Result<usize, 
     }
     // Every item gives at most three labels.
     if 3 * word.len() <= SMALL {
-        read_in::<Array<SMALL>, SMALL>(word, s0, s1)
+        read_in::<SMALL>(word, s0, s1)
     } else {
-        read_in::<Array<MAX_SIZE>, MAX_SIZE>(word, s0, s1)
+        read_in::<MAX_SIZE>(word, s0, s1)
     }
 }
 
-/// The same with the ring of the source for the pending edges.
-pub fn read_word_by_ring(word: &[u16], s0: &mut [u16], s1: &mut [u16]) -> Result<usize, u16> {
-    if word.is_empty() || word.len() > MAX_SIZE + 1 {
-        return Err(21);
-    }
-    read_in::<Linked, MAX_SIZE>(word, s0, s1)
-}
-
-fn read_in<P: Pending, const N: usize>(word: &[u16], s0: &mut [u16], s1: &mut [u16]) -> Result<usize, u16> {
-    let (mut x0, mut x1, mut room) = ([0; N], [0; N], P::room());
-    let mut reader = Reader::<_, N> { x0: &mut x0, x1: &mut x1, pending: P::over(&mut room), used: 0 };
+fn read_in<const N: usize>(word: &[u16], s0: &mut [u16], s1: &mut [u16]) -> Result<usize, u16> {
+    let (mut x0, mut x1, mut room) = ([0; N], [0; N], [0; N]);
+    let mut reader = Reader { x0: &mut x0, x1: &mut x1, pending: Pile::over(&mut room), used: 0 };
     match word[0] {
         0 => {
             reader.single();
@@ -58,7 +51,7 @@ fn read_in<P: Pending, const N: usize>(word: &[u16], s0: &mut [u16], s1: &mut [u
     Ok(n)
 }
 
-impl<S: Stack, const N: usize> Reader<'_, S, N> {
+impl<const N: usize> Reader<'_, N> {
     #[inline(always)]
     fn single(&mut self) {
         self.x0[self.used as usize] = self.used + 1;

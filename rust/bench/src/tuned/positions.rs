@@ -1,51 +1,10 @@
 //! Diagram at a position, and position of a diagram, by a static table of counts.
 use super::check::{check, maps};
 use super::labelling::{Bits, Rooting};
-use super::pending::{Array, Pending};
+use super::pending::Pile;
 use super::spelling::Speller;
-use super::{MAX_LISTED, SMALL};
-
-/// The heights and numbers of free labels that sizes up to 50 need have 3 h + f at most 56.
-const BOUND: usize = 56;
-const ROWS: usize = BOUND / 3 + 1;
-
-/// How many ways there are to go on from a stack of height h with f labels free.
-static WAYS: [[u64; BOUND + 1]; ROWS] = ways();
-
-const fn ways() -> [[u64; BOUND + 1]; ROWS] {
-    let mut table = [[0; BOUND + 1]; ROWS];
-    table[0][0] = 1;
-    let mut f = 0;
-    while f <= BOUND {
-        let mut h = 1;
-        while 3 * h + f <= BOUND {
-            let mut sum = table[h - 1][f];
-            if f >= 3 {
-                sum += table[h + 1][f - 3];
-            }
-            if f >= 1 {
-                sum += table[h - 1][f - 1];
-            }
-            if h >= 2 {
-                sum += (h as u64 - 1) * table[h - 2][f];
-            }
-            table[h][f] = sum;
-            h += 1;
-        }
-        f += 1;
-    }
-    table
-}
-
-pub fn listed(size: u64) -> bool {
-    size.wrapping_sub(1) < MAX_LISTED as u64
-}
-
-/// The count of a listed size.
-#[inline(always)]
-pub fn count_of(n: usize) -> u64 {
-    WAYS[1][n - 1] + if n >= 3 { WAYS[3][n - 3] } else { 0 }
-}
+use super::SMALL;
+use crate::table::{count_of, listed, MAX_LISTED, WAYS};
 
 pub fn diagram_at(size: u64, position: u64, s0: &mut [u16], s1: &mut [u16], word: &mut [u16]) -> Result<usize, u16> {
     if !listed(size) {
@@ -71,8 +30,8 @@ fn write_at(n: usize, mut place: u64, s0: &mut [u16], s1: &mut [u16], word: &mut
         free = n - 3;
     }
     word[0] = root;
-    let mut room = Array::<SMALL>::room();
-    let mut speller = Speller::new(s0, s1, Array::over(&mut room), root);
+    let mut room = [0; SMALL];
+    let mut speller = Speller::new(s0, s1, Pile::over(&mut room), root);
     let mut length = 1;
     while speller.height() > 0 {
         let item = choose(speller.height() - 1, &mut free, &mut place);
@@ -125,8 +84,8 @@ pub fn position(s0: &[u16], s1: &[u16], root: u64) -> Result<u64, u16> {
 /// The place of the diagram's word, summed as its items are found; nothing where not every edge is labelled.
 fn rank(s0: &[u16], s1: &[u16], root: u16) -> Option<u64> {
     let n = s0.len();
-    let mut room = Array::<SMALL>::room();
-    let mut rooting = Rooting::<Bits, _>::new(s0, s1, Array::over(&mut room));
+    let mut room = [0; SMALL];
+    let mut rooting = Rooting::<Bits, SMALL>::new(s0, s1, Pile::over(&mut room));
     let (mut h, mut f, mut place) = (1, n - 1, 1);
     if rooting.start(root) == 1 {
         (h, f, place) = (3, n - 3, 1 + WAYS[1][n - 1]);

@@ -1,31 +1,26 @@
 //! The labelling of a diagram: relabel and kept.
 use super::check::{maps, next};
-use super::pending::{Array, Linked, Pending, Stack};
-use super::{MAX_SIZE, SMALL};
+use super::pending::Pile;
+use super::SMALL;
+use crate::table::MAX_SIZE;
 
 pub fn relabel(s0: &[u16], s1: &[u16], root: u64, t0: &mut [u16], t1: &mut [u16], word: &mut [u16]) -> Result<usize, u16> {
     maps(s0, s1, root)?;
     if s0.len() <= SMALL {
-        relabel_in::<Array<SMALL>, SMALL, { SMALL + 1 }>(s0, s1, root as u16, t0, t1, word)
+        relabel_in::<SMALL, { SMALL + 1 }>(s0, s1, root as u16, t0, t1, word)
     } else {
-        relabel_in::<Array<MAX_SIZE>, MAX_SIZE, { MAX_SIZE + 1 }>(s0, s1, root as u16, t0, t1, word)
+        relabel_in::<MAX_SIZE, { MAX_SIZE + 1 }>(s0, s1, root as u16, t0, t1, word)
     }
 }
 
-/// The same with the ring of the source for the pending edges.
-pub fn relabel_by_ring(s0: &[u16], s1: &[u16], root: u64, t0: &mut [u16], t1: &mut [u16], word: &mut [u16]) -> Result<usize, u16> {
-    maps(s0, s1, root)?;
-    relabel_in::<Linked, MAX_SIZE, { MAX_SIZE + 1 }>(s0, s1, root as u16, t0, t1, word)
-}
-
 /// Labels into scratch lists: the diagram is connected where every edge got a label, and only then anything is written.
-fn relabel_in<P: Pending, const N: usize, const M: usize>(
+fn relabel_in<const N: usize, const M: usize>(
     s0: &[u16], s1: &[u16], root: u16, t0: &mut [u16], t1: &mut [u16], word: &mut [u16],
 ) -> Result<usize, u16> {
     let n = s0.len();
-    let (mut labels, mut x0, mut x1, mut items, mut room) = ([0; N], [0; N], [0; N], [0; M], P::room());
-    let pending = P::over(&mut room);
-    let mut l = Labelling::<_, N> { labels: &mut labels, x0: &mut x0, x1: &mut x1, pending, given: 0 };
+    let (mut labels, mut x0, mut x1, mut items, mut room) = ([0; N], [0; N], [0; N], [0; M], [0; N]);
+    let pending = Pile::over(&mut room);
+    let mut l = Labelling { labels: &mut labels, x0: &mut x0, x1: &mut x1, pending, given: 0 };
     items[0] = l.start(s0, root);
     let mut length = 1;
     while let Some(x) = l.pending.pop() {
@@ -45,15 +40,15 @@ fn relabel_in<P: Pending, const N: usize, const M: usize>(
 }
 
 /// A labelling under way: the label of each edge, 0 without one, an edge being an index modulo N; and the lists seen through the labels.
-struct Labelling<'a, S, const N: usize> {
+struct Labelling<'a, const N: usize> {
     labels: &'a mut [u16; N],
     x0: &'a mut [u16; N],
     x1: &'a mut [u16; N],
-    pending: S,
+    pending: Pile<'a, N>,
     given: u16,
 }
 
-impl<S: Stack, const N: usize> Labelling<'_, S, N> {
+impl<const N: usize> Labelling<'_, N> {
     /// Labels the black vertex of p, whose next edges q and r are pushed.
     #[inline(always)]
     fn triple(&mut self, p: u16, q: u16, r: u16) {
@@ -172,16 +167,16 @@ impl Marks for Stamps {
 }
 
 /// The word of a rooting, item by item: what kept and position need of a labelling.
-pub struct Rooting<'a, M, S> {
+pub struct Rooting<'a, M, const N: usize> {
     s0: &'a [u16],
     s1: &'a [u16],
     marks: M,
-    pending: S,
+    pending: Pile<'a, N>,
 }
 
-impl<'a, M: Marks, S: Stack> Rooting<'a, M, S> {
+impl<'a, M: Marks, const N: usize> Rooting<'a, M, N> {
     #[inline(always)]
-    pub fn new(s0: &'a [u16], s1: &'a [u16], pending: S) -> Self {
+    pub fn new(s0: &'a [u16], s1: &'a [u16], pending: Pile<'a, N>) -> Self {
         Rooting { s0, s1, marks: M::none(), pending }
     }
 
@@ -254,17 +249,17 @@ impl<'a, M: Marks, S: Stack> Rooting<'a, M, S> {
 pub fn kept(s0: &[u16], s1: &[u16], root: u64) -> Result<bool, u16> {
     maps(s0, s1, root)?;
     if s0.len() <= SMALL {
-        kept_in::<Bits, Array<SMALL>, { SMALL + 1 }>(s0, s1, root as u16)
+        kept_in::<Bits, SMALL, { SMALL + 1 }>(s0, s1, root as u16)
     } else {
-        kept_in::<Stamps, Array<MAX_SIZE>, { MAX_SIZE + 1 }>(s0, s1, root as u16)
+        kept_in::<Stamps, MAX_SIZE, { MAX_SIZE + 1 }>(s0, s1, root as u16)
     }
 }
 
 /// The diagram is connected where the labelling from its root reaches every edge.
-fn kept_in<M: Marks, P: Pending, const W: usize>(s0: &[u16], s1: &[u16], root: u16) -> Result<bool, u16> {
+fn kept_in<M: Marks, const N: usize, const W: usize>(s0: &[u16], s1: &[u16], root: u16) -> Result<bool, u16> {
     let mut own = [0u16; W];
-    let mut room = P::room();
-    let mut rooting = Rooting::<M, _>::new(s0, s1, P::over(&mut room));
+    let mut room = [0; N];
+    let mut rooting = Rooting::<M, N>::new(s0, s1, Pile::over(&mut room));
     own[0] = rooting.start(root);
     let mut length = 1;
     while let Some(item) = rooting.item() {

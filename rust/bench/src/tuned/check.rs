@@ -1,5 +1,6 @@
 //! Check.
-use super::{MAX_SIZE, SMALL};
+use super::SMALL;
+use crate::table::MAX_SIZE;
 
 pub fn check(s0: &[u16], s1: &[u16], root: u64) -> Result<(), u16> {
     maps(s0, s1, root)?;
