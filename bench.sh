@@ -5,5 +5,6 @@ cd "$(dirname "$0")"
 rt staticlib kaldvemir >&2
 grep -m 1 'model name' /proc/cpuinfo | sed 's/.*: //'
 date -u '+%Y-%m-%d %H:%M UTC'
+sed 's/^/load of the last 1, 5 and 15 minutes, running: /; s/ [0-9]*$//' /proc/loadavg
 cd rust
 cargo run --quiet --release --offline -p bench -- "$@"

@@ -9,10 +9,15 @@ const MAX_ISSUED: u64 = 65_535;
 const MAX_LENGTH: u64 = 65_535;
 const TICKS: u64 = 1 << 48;
 
-/// The last position of share j.
+/// The last position of share j of k, the count being `total`.
 #[inline]
-fn last_of(book: &Book, j: u64) -> u64 {
-    j * count_of(book.size as usize) / book.shares
+fn last_of(total: u64, k: u64, j: u64) -> u64 {
+    j * total / k
+}
+
+/// Whether the next position of the share at place i is past its last.
+fn finished(book: &Book, i: usize) -> bool {
+    book.next[i] > last_of(count_of(book.size as usize), book.shares, i as u64 + 1)
 }
 
 /// Condition 50.
@@ -26,9 +31,10 @@ fn sound(book: &Book) -> bool {
 }
 
 fn shares_sound(book: &Book) -> bool {
+    let total = count_of(book.size as usize);
     let mut before = 0;
     (0..book.shares as usize).all(|i| {
-        let last = last_of(book, i as u64 + 1);
+        let last = last_of(total, book.shares, i as u64 + 1);
         let (next, ticket, expiry) = (book.next[i], book.ticket[i], book.expiry[i]);
         let placed = before < next && next <= last + 1 && (next <= last || ticket == 0);
         before = last;
@@ -60,7 +66,7 @@ pub fn claim(book: &mut Book, tick: u64, share: u64, length: u64) -> Result<u64,
         return Err(54);
     }
     let i = share as usize - 1;
-    if book.next[i] > last_of(book, share) {
+    if finished(book, i) {
         return Err(55);
     }
     if book.ticket[i] != 0 && tick < book.expiry[i] {
@@ -104,7 +110,7 @@ pub fn commit(book: &mut Book, tick: u64, ticket: u64, position: u64) -> Result<
     }
     book.latest = tick;
     book.next[i] += 1;
-    if book.next[i] > last_of(book, i as u64 + 1) {
+    if finished(book, i) {
         book.ticket[i] = 0;
         book.expiry[i] = 0;
     }

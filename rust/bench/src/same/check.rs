@@ -18,10 +18,10 @@ pub fn check(s0: &[u16], s1: &[u16], root: u64) -> Result<(), u16> {
     if !entries_in(s1) {
         return Err(5);
     }
-    if !(1..=n as u16).all(|x| next(s0, next(s0, next(s0, x))) == x) {
+    if (0..n).any(|i| next(s0, next(s0, s0[i])) as usize != i + 1) {
         return Err(6);
     }
-    if !(1..=n as u16).all(|x| next(s1, next(s1, x)) == x) {
+    if (0..n).any(|i| next(s1, s1[i]) as usize != i + 1) {
         return Err(7);
     }
     if !connected(s0, s1) {
@@ -37,8 +37,8 @@ pub fn next(s: &[u16], x: u16) -> u16 {
 }
 
 fn entries_in(s: &[u16]) -> bool {
-    let edges = 1..=s.len() as u16;
-    s.iter().all(|x| edges.contains(x))
+    let n = s.len() as u16;
+    s.iter().all(|&x| 1 <= x && x <= n)
 }
 
 /// Whether every edge is reached from edge 1. The list holds the edges reached, each once; the first ones, done of them, are visited.

@@ -85,7 +85,7 @@ fn is_word(word: &[u16], n: usize) -> bool {
 fn above(h: usize, f: usize, item: u16) -> Option<(u16, usize, usize)> {
     let leads = |event| after(h, f, event).filter(|&(h, f)| ends(h, f)).map(|(h, f)| (event, h, f));
     let jump = if item < 3 { 3 } else { item + 1 };
-    (item + 1..3).find_map(leads).or_else(|| leads(jump))
+    [1, 2, jump].into_iter().find_map(|event| if event > item { leads(event) } else { None })
 }
 
 /// Moves a sound run, fresh or at a diagram, to the next word: the last item that can be raised is. False after the last word.
