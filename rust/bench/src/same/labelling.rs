@@ -36,12 +36,12 @@ pub struct Labelling<'a> {
 }
 
 impl<'a> Labelling<'a> {
-    #[inline]
+    #[inline(always)]
     pub fn new(s0: &'a [u16], s1: &'a [u16]) -> Self {
         Labelling { s0, s1, labels: [0; MAX_SIZE + 1], order: [0; MAX_SIZE + 1], pending: Ring::empty() }
     }
 
-    #[inline]
+    #[inline(always)]
     fn give(&mut self, given: &mut u16, x: u16) {
         *given += 1;
         self.labels[x as usize] = *given;
@@ -49,7 +49,7 @@ impl<'a> Labelling<'a> {
     }
 
     /// The edges p, q and r round a black vertex get the next labels; the last two are pushed.
-    #[inline]
+    #[inline(always)]
     fn fork(&mut self, given: &mut u16, p: u16, q: u16) {
         let r = next(self.s0, q);
         self.give(given, p);
@@ -60,7 +60,7 @@ impl<'a> Labelling<'a> {
     }
 
     /// The first item: U or T.
-    #[inline]
+    #[inline(always)]
     fn begin(&mut self, given: &mut u16, root: u16) -> u16 {
         self.pending.push(root);
         let q = next(self.s0, root);
@@ -73,7 +73,7 @@ impl<'a> Labelling<'a> {
     }
 
     /// The item of the edge on top of the stack; none where the stack is empty.
-    #[inline]
+    #[inline(always)]
     fn event(&mut self, given: &mut u16) -> Option<u16> {
         let k = self.pending.pop()?;
         let p = next(self.s1, k);
@@ -128,7 +128,7 @@ impl<'a> Labelling<'a> {
         before
     }
 
-    #[inline]
+    #[inline(always)]
     fn trace(&mut self, given: &mut u16, root: u16, own: &[u16]) -> bool {
         let first = self.begin(given, root);
         if first != own[0] {
