@@ -29,7 +29,8 @@ fn main() -> ExitCode {
         false => timing::Plan { repeats: 11, least: Duration::from_millis(40) },
     };
     agreement::all();
-    println!("the library and plain Rust agree on the inputs tried; now the times per call");
+    println!("the library and both baselines agree on the inputs tried; now the times per call");
+    println!("baseline: the same method in plain Rust, and of whole lists Vidal's generator; tuned: plain Rust by methods of its own");
     timing::print_header();
     let mut missed = 0;
     for (name, row) in rows::ROWS {
