@@ -1,0 +1,94 @@
+/* Two sessions divide the 22 rooted diagrams of size 6. One of them falls asleep, its ticket lapses, the other one takes its share over, and
+ * what the sleeper then says too late is refused. In the end the report says complete, with 22 committed. */
+#include "kaldvemir.h"
+
+#include <inttypes.h>
+#include <stdio.h>
+#include <stdlib.h>
+
+enum { SIZE = 6, SHARES = 3, COUNT = 22, LEASE = 10 };
+
+static kaldvemir_book book;
+static uint64_t tick;
+
+/* What a session holds: the share, its ticket, and the position taken last. */
+typedef struct {
+    const char *name;
+    uint64_t share;
+    uint64_t ticket;
+    uint64_t position;
+} session;
+
+static void expect(const char *call, uint16_t answer, uint16_t expected) {
+    if (answer != expected) {
+        fprintf(stderr, "%s answered %u and not %u\n", call, (unsigned)answer, (unsigned)expected);
+        exit(EXIT_FAILURE);
+    }
+}
+
+static void claim_share(session *s, uint64_t share) {
+    s->share = share;
+    expect("claim", kaldvemir_claim(&book, tick, share, LEASE, &s->ticket), 0);
+    printf("tick %2" PRIu64 "  %s claims share %" PRIu64 ": ticket %" PRIu64 "\n", tick, s->name, share, s->ticket);
+}
+
+static void take_next(session *s) {
+    uint16_t s0[SIZE], s1[SIZE], word[SIZE + 1];
+    uint8_t letters[3 * (SIZE + 1)];
+    uint64_t length, count;
+    expect("take", kaldvemir_take(&book, tick, s->ticket, s0, SIZE, s1, SIZE, word, SIZE + 1, &s->share, &s->position, &length), 0);
+    expect("letters", kaldvemir_letters(word, length, letters, sizeof letters, &count), 0);
+    printf("tick %2" PRIu64 "  %s takes %2" PRIu64 ": %.*s\n", tick, s->name, s->position, (int)count, (const char *)letters);
+}
+
+/* Commits what was taken last, and says whether the ticket has ended with that. */
+static int commit_taken(session *s) {
+    expect("commit", kaldvemir_commit(&book, tick, s->ticket, s->position), 0);
+    printf("tick %2" PRIu64 "  %s commits %2" PRIu64 "\n", tick, s->name, s->position);
+    return book.ticket[s->share - 1] != s->ticket;
+}
+
+/* Works on from the share's next position until the share is finished. */
+static void finish_share(session *s) {
+    do {
+        take_next(s);
+    } while (!commit_taken(s));
+    printf("         share %" PRIu64 " is finished\n", s->share);
+}
+
+static void late_commit(session *s, uint16_t refusal, const char *why) {
+    kaldvemir_book before = book;
+    expect("late commit", kaldvemir_commit(&book, tick, s->ticket, s->position), refusal);
+    if (book.next[s->share - 1] != before.next[s->share - 1] || book.latest != before.latest) {
+        fprintf(stderr, "a refused commit altered the book\n");
+        exit(EXIT_FAILURE);
+    }
+    printf("tick %2" PRIu64 "  %s commits %2" PRIu64 " too late: refused %u, %s\n", tick, s->name, s->position, (unsigned)refusal, why);
+}
+
+int main(void) {
+    session ada = {"Ada", 0, 0, 0}, ben = {"Ben", 0, 0, 0};
+    uint64_t committed, complete;
+
+    expect("open", kaldvemir_open(&book, SIZE, SHARES), 0);
+    claim_share(&ada, 1);
+    claim_share(&ben, 2);
+    take_next(&ben);
+    tick += 1;
+    commit_taken(&ben);
+    take_next(&ben); /* and falls asleep */
+    finish_share(&ada);
+
+    tick += LEASE; /* Ben's ticket has lapsed */
+    late_commit(&ben, 59, "lapsed");
+    claim_share(&ada, 2);
+    late_commit(&ben, 58, "the ticket stands at no share");
+    finish_share(&ada); /* from the position that Ben did not commit */
+
+    claim_share(&ben, 3);
+    finish_share(&ben);
+
+    expect("report", kaldvemir_report(&book, &committed, &complete), 0);
+    printf("%" PRIu64 " committed, %s\n", committed, complete == 1 ? "complete" : "not complete");
+    return committed == COUNT && complete == 1 ? EXIT_SUCCESS : EXIT_FAILURE;
+}

@@ -1,0 +1,282 @@
+//! Before anything is timed, the library and both baselines are given some thousands of the same inputs, good and damaged, and must
+//! give the same answers, the same lists and the same runs and books.
+use crate::generator::{generate, kept_known};
+use crate::lines::Page;
+use crate::random::{Diagram, Random};
+use crate::raw::{Book, Run};
+use crate::rows::{books::opened, census, given::words, listing, whole};
+use crate::table::count_of;
+use crate::{letters, library, same, tuned};
+use std::fmt::Debug;
+
+pub fn all() {
+    let mut random = Random(7);
+    given(&mut random);
+    read(&mut random);
+    at_positions(&mut random);
+    runs(&mut random);
+    books(&mut random);
+    lists();
+    sums();
+    censuses();
+}
+
+fn equal<T: PartialEq + Debug>(what: &str, library: T, plain: T) {
+    assert!(library == plain, "{what}: the library gives\n{library:?}\nand plain Rust\n{plain:?}");
+}
+
+/// Output lists of about the length needed, with something in them.
+#[derive(Clone, PartialEq, Debug)]
+struct Outputs {
+    s0: Vec<u16>,
+    s1: Vec<u16>,
+    word: Vec<u16>,
+}
+
+fn outputs(random: &mut Random, n: usize) -> Outputs {
+    let mut list = |length: usize| {
+        let length = if random.below(16) == 0 { length.saturating_sub(1) } else { length + random.below(3) as usize };
+        (0..length).map(|_| random.next() as u16).collect::<Vec<u16>>()
+    };
+    Outputs { s0: list(n), s1: list(n), word: list(n + 1) }
+}
+
+/// Gives both functions a copy of the outputs and compares what they answer and what they leave.
+fn agree<T: PartialEq + Debug>(
+    what: &str, outputs: Outputs, library: impl Fn(&mut Outputs) -> T, plain: impl Fn(&mut Outputs) -> T,
+) {
+    let (mut a, mut b) = (outputs.clone(), outputs);
+    let (x, y) = (library(&mut a), plain(&mut b));
+    equal(what, (x, a), (y, b));
+}
+
+fn damage(random: &mut Random, d: &mut Diagram) {
+    let n = d.s0.len() as u64;
+    let at = random.below(n) as usize;
+    match random.below(8) {
+        0 => d.s0[at] = random.below(n + 2) as u16,
+        1 => d.s1[at] = random.below(n + 2) as u16,
+        2 => d.root = [0, n + 1, u64::MAX][random.below(3) as usize],
+        3 => d.s0.truncate(at),
+        4 => d.s1.truncate(at),
+        5 => {
+            // a second component
+            let m = d.s0.len() as u16;
+            d.s0.push(m + 1);
+            d.s1.push(m + 1);
+        }
+        6 => d.s0.swap(at, 0),
+        _ => d.s1.swap(at, 0),
+    }
+}
+
+fn given(random: &mut Random) {
+    for i in 0..6000 {
+        let most = if i % 20 == 0 { 1024 } else { 70 };
+        let n = 1 + random.below(most) as usize;
+        let mut d = random.diagram(n);
+        if i % 3 == 0 {
+            damage(random, &mut d);
+        }
+        let Diagram { s0, s1, root } = &d;
+        let by_library = library::check(s0, s1, *root);
+        equal("check", &by_library, &same::check::check(s0, s1, *root));
+        equal("check", &by_library, &tuned::check::check(s0, s1, *root));
+        let by_library = library::invariants(s0, s1, *root);
+        equal("invariants", &by_library, &same::invariants::invariants(s0, s1, *root));
+        equal("invariants", &by_library, &tuned::invariants::invariants(s0, s1, *root));
+        let by_library = library::kept(s0, s1, *root);
+        equal("kept", &by_library, &same::labelling::kept(s0, s1, *root));
+        equal("kept", &by_library, &tuned::labelling::kept(s0, s1, *root));
+        let by_library = library::position(s0, s1, *root);
+        equal("position", &by_library, &same::positions::position(s0, s1, *root));
+        equal("position", &by_library, &tuned::positions::position(s0, s1, *root));
+        let out = outputs(random, n);
+        let by_library = |o: &mut Outputs| library::relabel(s0, s1, *root, &mut o.s0, &mut o.s1, &mut o.word);
+        let by_same = |o: &mut Outputs| same::labelling::relabel(s0, s1, *root, &mut o.s0, &mut o.s1, &mut o.word);
+        let by_tuned = |o: &mut Outputs| tuned::labelling::relabel(s0, s1, *root, &mut o.s0, &mut o.s1, &mut o.word);
+        agree("relabel", out.clone(), by_library, by_same);
+        agree("relabel", out, by_library, by_tuned);
+    }
+}
+
+fn read(random: &mut Random) {
+    for i in 0..6000 {
+        let n = 1 + random.below(if i % 20 == 0 { 1024 } else { 60 }) as usize;
+        let mut word = words(&[random.diagram(n)]).remove(0);
+        if i % 2 == 0 {
+            let at = random.below(word.len() as u64) as usize;
+            match random.below(3) {
+                0 => word[at] = random.below(8) as u16,
+                1 => word.truncate(at),
+                _ => word.push(random.below(4) as u16),
+            }
+        }
+        let out = outputs(random, n);
+        let by_library = |o: &mut Outputs| library::read_word(&word, &mut o.s0, &mut o.s1);
+        agree("read word", out.clone(), by_library, |o| same::reading::read_word(&word, &mut o.s0, &mut o.s1));
+        agree("read word", out, by_library, |o| tuned::reading::read_word(&word, &mut o.s0, &mut o.s1));
+        let room = vec![7u8; random.below(4 * word.len() as u64 + 2) as usize];
+        let (mut a, mut b) = (room.clone(), room);
+        equal("letters", library::letters(&word, &mut a), letters::letters(&word, &mut b));
+        equal("letters", a, b);
+    }
+}
+
+fn at_positions(random: &mut Random) {
+    for _ in 0..6000 {
+        let size = random.below(53);
+        let total = if (1..=50).contains(&size) { count_of(size as usize) } else { 1 };
+        let position = match random.below(8) {
+            0 => 0,
+            1 => total,
+            2 => total + 1,
+            _ => 1 + random.below(total),
+        };
+        let out = outputs(random, size as usize);
+        let by_library = |o: &mut Outputs| library::diagram_at(size, position, &mut o.s0, &mut o.s1, &mut o.word);
+        let by_same = |o: &mut Outputs| same::positions::diagram_at(size, position, &mut o.s0, &mut o.s1, &mut o.word);
+        let by_tuned = |o: &mut Outputs| tuned::positions::diagram_at(size, position, &mut o.s0, &mut o.s1, &mut o.word);
+        agree("diagram at a position", out.clone(), by_library, by_same);
+        agree("diagram at a position", out, by_library, by_tuned);
+    }
+}
+
+type Step = fn(&mut Run, &mut [u16], &mut [u16], &mut [u16]) -> Result<usize, u16>;
+
+fn one_step(random: &mut Random, start: &Run, out: usize) -> Run {
+    let out = outputs(random, out);
+    let by = |step: Step| {
+        move |o: &mut Outputs| {
+            let mut run = *start;
+            (step(&mut run, &mut o.s0, &mut o.s1, &mut o.word), run)
+        }
+    };
+    agree("step", out.clone(), by(library::step), by(same::run::step));
+    agree("step", out.clone(), by(library::step), by(tuned::run::step));
+    by(library::step)(&mut out.clone()).1
+}
+
+fn runs(random: &mut Random) {
+    for size in 1..=12 {
+        let mut run = library::begin(size).unwrap();
+        while run.stage != 2 {
+            run = one_step(random, &run, size as usize);
+        }
+        one_step(random, &run, size as usize);
+    }
+    for _ in 0..6000 {
+        let size = 1 + random.below(50) as usize;
+        let mut run = listing::run_at(size, 1 + random.below(count_of(size)));
+        match random.below(8) {
+            0 => run.size = random.below(53) as u16,
+            1 => run.stage = random.below(4) as u16,
+            2 => run.length = random.below(54) as u16,
+            3 => run.items[random.below(51) as usize] = random.below(6) as u16,
+            _ => {}
+        }
+        one_step(random, &run, size);
+    }
+}
+
+fn spoil(random: &mut Random, book: &mut Book) {
+    let at = random.below(32) as usize;
+    match random.below(8) {
+        0 => book.size = random.below(53),
+        1 => book.shares = random.below(35),
+        2 => book.latest = [1 << 48, (1 << 48) - 1, 0][random.below(3) as usize],
+        3 => book.issued = random.below(70_000),
+        4 => book.next[at] = random.below(30),
+        5 => book.ticket[at] = book.ticket[random.below(32) as usize],
+        6 => book.ticket[at] = random.below(10),
+        _ => book.expiry[at] = random.below(70_000),
+    }
+}
+
+/// The calls of one side.
+struct Calls {
+    claim: fn(&mut Book, u64, u64, u64) -> Result<u64, u16>,
+    take: fn(&mut Book, u64, u64, &mut [u16], &mut [u16], &mut [u16]) -> Result<library::Taken, u16>,
+    commit: fn(&mut Book, u64, u64, u64) -> Result<(), u16>,
+}
+
+const LIBRARY: Calls = Calls { claim: library::claim, take: library::take, commit: library::commit };
+const SAME: Calls = Calls { claim: same::book::claim, take: same::book::take, commit: same::book::commit };
+const TUNED: Calls = Calls { claim: tuned::book::claim, take: tuned::book::take, commit: tuned::book::commit };
+
+/// One call on a copy of the book for each side; returns the book as the call left it.
+fn one_call(random: &mut Random, book: &Book, tick: u64) -> Book {
+    let share = random.below(book.shares + 2);
+    let ticket = match random.below(4) {
+        0 => random.below(book.issued + 2),
+        _ => book.ticket[random.below(32) as usize],
+    };
+    let length = [0, 1, 10, 65_535, 65_536][random.below(5) as usize];
+    let held = book.ticket.iter().position(|&t| t == ticket).unwrap_or(0);
+    let position = book.next[held] + (random.below(8) == 0) as u64;
+    let out = outputs(random, book.size as usize);
+    let call = random.below(3);
+    let by = |calls: Calls| {
+        move |o: &mut Outputs| {
+            let mut b = *book;
+            let answer = match call {
+                0 => (calls.claim)(&mut b, tick, share, length).map(|ticket| [ticket, 0, 0]),
+                1 => (calls.take)(&mut b, tick, ticket, &mut o.s0, &mut o.s1, &mut o.word).map(|t| [t.share, t.position, t.length as u64]),
+                _ => (calls.commit)(&mut b, tick, ticket, position).map(|()| [0; 3]),
+            };
+            (answer, b)
+        }
+    };
+    let what = ["claim", "take", "commit"][call as usize];
+    agree(what, out.clone(), by(LIBRARY), by(SAME));
+    agree(what, out.clone(), by(LIBRARY), by(TUNED));
+    by(LIBRARY)(&mut out.clone()).1
+}
+
+fn books(random: &mut Random) {
+    for i in 0..300 {
+        let size = if i % 2 == 0 { 1 + random.below(8) } else { 1 + random.below(50) };
+        let mut book = opened(size, 1 + random.below(32));
+        let mut tick = 0;
+        for _ in 0..60 {
+            tick += random.below(3);
+            let asked = if random.below(20) == 0 { tick.saturating_sub(2) } else { tick };
+            book = one_call(random, &book, asked);
+            let mut spoilt = book;
+            spoil(random, &mut spoilt);
+            one_call(random, &spoilt, tick);
+        }
+    }
+}
+
+fn lists() {
+    for size in 1..=14usize {
+        let mut run = library::begin(size as u64).unwrap();
+        let (mut s0, mut s1, mut word) = (vec![0; size], vec![0; size], vec![0; size + 1]);
+        generate(size, |t0, t1, w| {
+            let length = library::step(&mut run, &mut s0, &mut s1, &mut word).unwrap();
+            equal("whole list", (&s0[..], &s1[..], &word[..length]), (t0, t1, w));
+            equal("keep mark", library::kept(&s0, &s1, 1), Ok(kept_known(t0, t1, w)));
+        });
+        equal("whole list's end", library::step(&mut run, &mut s0, &mut s1, &mut word), Ok(0));
+    }
+}
+
+/// The sums that whole lists are timed with.
+fn sums() {
+    equal("whole list", whole::by_steps(13), whole::by_generator(13));
+    equal("whole list with keep marks", whole::marked_by_steps(13), whole::marked_by_generator(13));
+}
+
+fn censuses() {
+    for size in [1, 2, 3, 4, 9, 13] {
+        let page = || Page::new(Some(Vec::new()));
+        let (mut a, mut b, mut c) = (page(), page(), page());
+        let kept = census::by_steps(&census::LIBRARY, size, &mut a);
+        equal("census", kept, census::by_steps(&census::SAME, size, &mut b));
+        equal("census", kept, census::by_generator(size, &mut c));
+        let [a, b, c] = [a, b, c].map(|page| page.kept.map(String::from_utf8));
+        equal("census", &a, &b);
+        equal("census", &a, &c);
+    }
+}

@@ -1,0 +1,38 @@
+//! The rows of the table.
+pub mod books;
+pub mod census;
+pub mod given;
+pub mod listing;
+pub mod whole;
+
+use crate::timing::{Row, Work};
+
+/// The name of each row, and how it is set up.
+pub const ROWS: [(&str, fn() -> Row); 20] = [
+    ("check 1024", given::check),
+    ("read word 1024", given::read_word),
+    ("relabel 1024", given::relabel_large),
+    ("relabel 50", given::relabel_listed),
+    ("diagram at a position 50", listing::diagram_at),
+    ("position 50", listing::position),
+    ("kept 24, a stretch of the list", listing::kept_stretch),
+    ("kept 24, random", listing::kept_random),
+    ("run step 25", listing::steps),
+    ("census line 20", census::census),
+    ("claim 24, 32 shares", books::claim_32),
+    ("take 24, 32 shares", books::take_32),
+    ("commit 24, 32 shares", books::commit_32),
+    ("claim 24, 4 shares", books::claim_4),
+    ("take 24, 4 shares", books::take_4),
+    ("commit 24, 4 shares", books::commit_4),
+    ("whole list 20 by steps", whole::list_20),
+    ("whole list 22 by steps", whole::list_22),
+    ("whole list 20 with keep marks", whole::marked_20),
+    ("whole list 22 with keep marks", whole::marked_22),
+];
+
+/// A row of an operation: the library, the same method and the tuned one, with the bar of 1.5.
+fn row<W: FnMut() -> u64 + 'static>(name: &'static str, calls: u64, library: W, same: W, tuned: W) -> Row {
+    let sides: Vec<Work> = vec![Box::new(library), Box::new(same), Box::new(tuned)];
+    Row { name, calls, bar: 1.5, sides }
+}

@@ -1,0 +1,103 @@
+//! The share book of size 24. In each row a ticket stands at every share, so that the test for equal tickets has all its work.
+use super::row;
+use crate::library::Taken;
+use crate::raw::Book;
+use crate::timing::Row;
+use crate::{library, same, tuned};
+use std::hint::black_box;
+
+const CALLS: u64 = 30_000;
+
+type Claim = fn(&mut Book, u64, u64, u64) -> Result<u64, u16>;
+type Take = fn(&mut Book, u64, u64, &mut [u16], &mut [u16], &mut [u16]) -> Result<Taken, u16>;
+type Commit = fn(&mut Book, u64, u64, u64) -> Result<(), u16>;
+
+pub fn opened(size: u64, shares: u64) -> Book {
+    let mut book = Book { size: 0, shares: 0, latest: 0, issued: 0, next: [0; 32], ticket: [0; 32], expiry: [0; 32] };
+    library::open(&mut book, size, shares).unwrap();
+    book
+}
+
+/// A book whose shares 1, 2, .. have the tickets 1, 2, ..
+fn claimed(shares: u64) -> Book {
+    let mut book = opened(24, shares);
+    for share in 1..=shares {
+        library::claim(&mut book, 1, share, 60_000).unwrap();
+    }
+    book
+}
+
+/// Each share is claimed again at the tick at which its ticket has just lapsed.
+fn claim(name: &'static str, shares: u64) -> Row {
+    let start = opened(24, shares);
+    let work = |f: Claim| {
+        let start = start;
+        move || {
+            let mut book = start;
+            for tick in 0..CALLS {
+                black_box(f(black_box(&mut book), tick, tick % shares + 1, shares).unwrap());
+            }
+            book.issued + book.expiry[0]
+        }
+    };
+    row(name, CALLS, work(library::claim), work(same::book::claim), work(tuned::book::claim))
+}
+
+fn take(name: &'static str, shares: u64) -> Row {
+    let start = claimed(shares);
+    let work = |f: Take| {
+        let start = start;
+        let (mut s0, mut s1, mut word) = ([0; 24], [0; 24], [0; 25]);
+        move || {
+            let mut book = start;
+            let mut sum = 0;
+            for i in 0..CALLS {
+                let taken = f(black_box(&mut book), 2 + i, i % shares + 1, &mut s0, &mut s1, &mut word).unwrap();
+                sum += taken.share + taken.position + taken.length as u64 + black_box(&s1)[12] as u64;
+            }
+            sum
+        }
+    };
+    row(name, CALLS, work(library::take), work(same::book::take), work(tuned::book::take))
+}
+
+fn commit(name: &'static str, shares: u64) -> Row {
+    let start = claimed(shares);
+    let work = |f: Commit| {
+        let start = start;
+        move || {
+            let mut book = start;
+            for i in 0..CALLS {
+                let at = (i % shares) as usize;
+                let position = book.next[at];
+                f(black_box(&mut book), 2 + i, at as u64 + 1, position).unwrap();
+            }
+            book.next.iter().sum::<u64>() + book.latest
+        }
+    };
+    row(name, CALLS, work(library::commit), work(same::book::commit), work(tuned::book::commit))
+}
+
+pub fn claim_32() -> Row {
+    claim("claim 24, 32 shares", 32)
+}
+
+pub fn take_32() -> Row {
+    take("take 24, 32 shares", 32)
+}
+
+pub fn commit_32() -> Row {
+    commit("commit 24, 32 shares", 32)
+}
+
+pub fn claim_4() -> Row {
+    claim("claim 24, 4 shares", 4)
+}
+
+pub fn take_4() -> Row {
+    take("take 24, 4 shares", 4)
+}
+
+pub fn commit_4() -> Row {
+    commit("commit 24, 4 shares", 4)
+}

@@ -1,0 +1,76 @@
+//! The census. The letters, the invariants and the keep mark of a line are each side's own; the rest of the line is written by the code that
+//! all sides share.
+use crate::generator::{generate, kept_known};
+use crate::library::Numbers;
+use crate::lines::Page;
+use crate::raw::Run;
+use crate::table::count_of;
+use crate::timing::{Row, Work};
+use crate::{letters, library, same, tuned};
+
+/// What a census by steps is made of.
+pub struct Parts {
+    step: fn(&mut Run, &mut [u16], &mut [u16], &mut [u16]) -> Result<usize, u16>,
+    letters: fn(&[u16], &mut [u8]) -> Result<usize, u16>,
+    invariants: fn(&[u16], &[u16], u64) -> Result<Numbers, u16>,
+    kept: fn(&[u16], &[u16], u64) -> Result<bool, u16>,
+}
+
+pub const LIBRARY: Parts =
+    Parts { step: library::step, letters: library::letters, invariants: library::invariants, kept: library::kept };
+pub const SAME: Parts =
+    Parts { step: same::run::step, letters: letters::letters, invariants: same::invariants::invariants, kept: same::labelling::kept };
+
+/// Returns how many diagrams are kept.
+pub fn by_steps(parts: &Parts, size: usize, page: &mut Page) -> u64 {
+    let mut run = Run { size: size as u16, stage: 0, length: 0, items: [0; 51] };
+    let (mut s0, mut s1, mut word) = (vec![0; size], vec![0; size], vec![0; size + 1]);
+    let mut listed = 0;
+    let mut kept = 0;
+    loop {
+        let length = (parts.step)(&mut run, &mut s0, &mut s1, &mut word).unwrap();
+        if length == 0 {
+            break;
+        }
+        listed += 1;
+        page.number(listed);
+        page.byte(b' ');
+        page.at += (parts.letters)(&word[..length], &mut page.bytes[page.at..]).unwrap();
+        let numbers = (parts.invariants)(&s0, &s1, 1).unwrap();
+        let keep = (parts.kept)(&s0, &s1, 1).unwrap();
+        kept += keep as u64;
+        page.rest(&s0, &s1, &numbers, keep);
+        page.turn();
+    }
+    page.flush();
+    kept
+}
+
+/// The same from the lists that the generator writes. What it generated it does not check again.
+pub fn by_generator(size: usize, page: &mut Page) -> u64 {
+    let mut listed = 0;
+    let mut kept = 0;
+    generate(size, |s0, s1, word| {
+        listed += 1;
+        page.number(listed);
+        page.byte(b' ');
+        page.at += letters::letters(word, &mut page.bytes[page.at..]).unwrap();
+        let numbers = tuned::invariants::measure(s0, s1);
+        let keep = kept_known(s0, s1, word);
+        kept += keep as u64;
+        page.rest(s0, s1, &numbers, keep);
+        page.turn();
+    });
+    page.flush();
+    kept
+}
+
+pub fn census() -> Row {
+    let (mut a, mut b, mut c) = (Page::new(None), Page::new(None), Page::new(None));
+    let sides: Vec<Work> = vec![
+        Box::new(move || by_steps(&LIBRARY, 20, &mut a)),
+        Box::new(move || by_steps(&SAME, 20, &mut b)),
+        Box::new(move || by_generator(20, &mut c)),
+    ];
+    Row { name: "census line 20", calls: count_of(20), bar: 1.5, sides }
+}

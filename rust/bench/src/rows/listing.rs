@@ -1,0 +1,95 @@
+//! Listed diagrams: positions, keep marks and runs.
+use super::{given, row};
+use crate::random::{Diagram, Random};
+use crate::raw::Run;
+use crate::table::count_of;
+use crate::timing::Row;
+use crate::{library, same, tuned};
+use std::hint::black_box;
+use std::rc::Rc;
+
+type DiagramAt = fn(u64, u64, &mut [u16], &mut [u16], &mut [u16]) -> Result<usize, u16>;
+type Position = fn(&[u16], &[u16], u64) -> Result<u64, u16>;
+type Kept = fn(&[u16], &[u16], u64) -> Result<bool, u16>;
+type Step = fn(&mut Run, &mut [u16], &mut [u16], &mut [u16]) -> Result<usize, u16>;
+
+pub fn diagram_at() -> Row {
+    let mut random = Random(3);
+    let total = count_of(50);
+    let inputs: Rc<Vec<u64>> = Rc::new((0..1000).map(|_| 1 + random.below(total)).collect());
+    let work = |f: DiagramAt| {
+        let inputs = inputs.clone();
+        let (mut s0, mut s1, mut word) = ([0; 50], [0; 50], [0; 51]);
+        move || {
+            let mut sum = 0;
+            for &position in inputs.iter() {
+                sum += f(50, black_box(position), &mut s0, &mut s1, &mut word).unwrap();
+                sum += black_box(&s1)[30] as usize;
+            }
+            sum as u64
+        }
+    };
+    row(
+        "diagram at a position 50", 1000,
+        work(library::diagram_at), work(same::positions::diagram_at), work(tuned::positions::diagram_at),
+    )
+}
+
+pub fn position() -> Row {
+    let inputs = given::listed(1000);
+    let work = |f: Position| {
+        let inputs = inputs.clone();
+        move || inputs.iter().fold(0u64, |sum, d| sum.wrapping_add(f(black_box(&d.s0), &d.s1, d.root).unwrap()))
+    };
+    row("position 50", 1000, work(library::position), work(same::positions::position), work(tuned::positions::position))
+}
+
+fn at(size: usize, position: u64) -> Diagram {
+    let mut d = Diagram { s0: vec![0; size], s1: vec![0; size], root: 1 };
+    tuned::positions::diagram_at(size as u64, position, &mut d.s0, &mut d.s1, &mut vec![0; size + 1]).unwrap();
+    d
+}
+
+fn kept(name: &'static str, inputs: Vec<Diagram>) -> Row {
+    let inputs = Rc::new(inputs);
+    let work = |f: Kept| {
+        let inputs = inputs.clone();
+        move || inputs.iter().map(|d| f(black_box(&d.s0), &d.s1, d.root).unwrap() as u64).sum()
+    };
+    let calls = inputs.len() as u64;
+    row(name, calls, work(library::kept), work(same::labelling::kept), work(tuned::labelling::kept))
+}
+
+pub fn kept_stretch() -> Row {
+    kept("kept 24, a stretch of the list", (0..10_000).map(|i| at(24, 700_000 + i)).collect())
+}
+
+pub fn kept_random() -> Row {
+    let mut random = Random(4);
+    let total = count_of(24);
+    kept("kept 24, random", (0..10_000).map(|_| at(24, 1 + random.below(total))).collect())
+}
+
+/// A run at a position.
+pub fn run_at(size: usize, position: u64) -> Run {
+    let mut items = [0; 51];
+    let (mut s0, mut s1) = ([0; 50], [0; 50]);
+    let length = tuned::positions::diagram_at(size as u64, position, &mut s0, &mut s1, &mut items).unwrap();
+    Run { size: size as u16, stage: 1, length: length as u16, items }
+}
+
+pub fn steps() -> Row {
+    let start = run_at(25, 2_000_000);
+    let work = |f: Step| {
+        let (mut s0, mut s1, mut word) = ([0; 25], [0; 25], [0; 26]);
+        move || {
+            let mut run = start;
+            let mut sum = 0;
+            for _ in 0..200_000 {
+                sum += f(&mut run, &mut s0, &mut s1, &mut word).unwrap() + black_box(&s1)[12] as usize;
+            }
+            sum as u64
+        }
+    };
+    row("run step 25", 200_000, work(library::step), work(same::run::step), work(tuned::run::step))
+}

@@ -1,0 +1,118 @@
+//! The share book's claim, take and commit, on the book in its place. Condition 50 is tested share by share.
+use super::positions::diagram_at;
+use crate::library::Taken;
+use crate::raw::Book;
+use crate::table::{count_of, listed};
+
+const MAX_SHARES: u64 = 32;
+const MAX_ISSUED: u64 = 65_535;
+const MAX_LENGTH: u64 = 65_535;
+const TICKS: u64 = 1 << 48;
+
+/// The last position of share j of k, the count being `total`.
+#[inline]
+fn last_of(total: u64, k: u64, j: u64) -> u64 {
+    j * total / k
+}
+
+/// Whether the next position of the share at place i is past its last.
+fn finished(book: &Book, i: usize) -> bool {
+    book.next[i] > last_of(count_of(book.size as usize), book.shares, i as u64 + 1)
+}
+
+/// Condition 50.
+fn sound(book: &Book) -> bool {
+    if !listed(book.size) || !(1..=MAX_SHARES).contains(&book.shares) || book.issued > MAX_ISSUED || book.latest >= TICKS {
+        return false;
+    }
+    let k = book.shares as usize;
+    let unused = |list: &[u64]| list[k..].iter().all(|&x| x == 0);
+    shares_sound(book) && unused(&book.next) && unused(&book.ticket) && unused(&book.expiry)
+}
+
+fn shares_sound(book: &Book) -> bool {
+    let total = count_of(book.size as usize);
+    let mut before = 0;
+    (0..book.shares as usize).all(|i| {
+        let last = last_of(total, book.shares, i as u64 + 1);
+        let (next, ticket, expiry) = (book.next[i], book.ticket[i], book.expiry[i]);
+        let placed = before < next && next <= last + 1 && (next <= last || ticket == 0);
+        before = last;
+        placed
+            && (ticket == 0 || !book.ticket[..i].contains(&ticket))
+            && ticket <= book.issued
+            && (ticket != 0 || expiry == 0)
+            && expiry <= book.latest + MAX_LENGTH
+    })
+}
+
+/// 50, then 52.
+fn admit(book: &Book, tick: u64) -> Result<(), u16> {
+    if !sound(book) {
+        return Err(50);
+    }
+    if tick < book.latest || tick >= TICKS {
+        return Err(52);
+    }
+    Ok(())
+}
+
+pub fn claim(book: &mut Book, tick: u64, share: u64, length: u64) -> Result<u64, u16> {
+    admit(book, tick)?;
+    if !(1..=book.shares).contains(&share) {
+        return Err(53);
+    }
+    if !(1..=MAX_LENGTH).contains(&length) {
+        return Err(54);
+    }
+    let i = share as usize - 1;
+    if finished(book, i) {
+        return Err(55);
+    }
+    if book.ticket[i] != 0 && tick < book.expiry[i] {
+        return Err(56);
+    }
+    if book.issued == MAX_ISSUED {
+        return Err(57);
+    }
+    book.latest = tick;
+    book.issued += 1;
+    book.ticket[i] = book.issued;
+    book.expiry[i] = tick + length;
+    Ok(book.issued)
+}
+
+/// The place of the share where the ticket stands and has not lapsed, or 50, 52, 58, 59.
+fn standing(book: &Book, tick: u64, ticket: u64) -> Result<usize, u16> {
+    admit(book, tick)?;
+    if ticket == 0 {
+        return Err(58);
+    }
+    let i = book.ticket[..book.shares as usize].iter().position(|&t| t == ticket).ok_or(58u16)?;
+    if book.expiry[i] <= tick {
+        return Err(59);
+    }
+    Ok(i)
+}
+
+pub fn take(book: &mut Book, tick: u64, ticket: u64, s0: &mut [u16], s1: &mut [u16], word: &mut [u16]) -> Result<Taken, u16> {
+    let i = standing(book, tick, ticket)?;
+    let position = book.next[i];
+    let length = diagram_at(book.size, position, s0, s1, word)?;
+    book.latest = tick;
+    Ok(Taken { share: i as u64 + 1, position, length })
+}
+
+pub fn commit(book: &mut Book, tick: u64, ticket: u64, position: u64) -> Result<(), u16> {
+    let i = standing(book, tick, ticket)?;
+    if book.next[i] != position {
+        return Err(60);
+    }
+    book.latest = tick;
+    book.next[i] += 1;
+    if finished(book, i) {
+        book.ticket[i] = 0;
+        book.expiry[i] = 0;
+    }
+    Ok(())
+}

@@ -1,0 +1,43 @@
+//! The invariants of a diagram.
+use super::check::{check, next};
+use crate::library::Numbers;
+use crate::table::MAX_SIZE;
+
+pub fn invariants(s0: &[u16], s1: &[u16], root: u64) -> Result<Numbers, u16> {
+    check(s0, s1, root)?;
+    let n = s0.len() as i32;
+    let (e2, e3) = (fixed(s1), fixed(s0));
+    let (c, level) = cycles(s0, s1);
+    Ok(Numbers { e2, e3, c, t: 12 + n - 3 * e2 as i32 - 4 * e3 as i32 - 6 * c as i32, level })
+}
+
+fn fixed(s: &[u16]) -> u16 {
+    s.iter().zip(1..).filter(|&(&x, i)| x == i).count() as u16
+}
+
+/// The number of cycles of i to s0(s1(i)), and the longest. Each is walked from its least edge, the first without a mark.
+fn cycles(s0: &[u16], s1: &[u16]) -> (u16, u16) {
+    let mut seen = [0u8; MAX_SIZE];
+    let (mut count, mut longest) = (0, 0);
+    for first in 1..=s0.len() as u16 {
+        if seen[first as usize - 1] == 0 {
+            count += 1;
+            longest = longest.max(walk(s0, s1, &mut seen, first));
+        }
+    }
+    (count, longest)
+}
+
+/// Marks the cycle of an edge and counts its edges.
+#[inline]
+fn walk(s0: &[u16], s1: &[u16], seen: &mut [u8; MAX_SIZE], first: u16) -> u16 {
+    let (mut x, mut length) = (first, 0);
+    loop {
+        seen[x as usize - 1] = 1;
+        x = next(s0, next(s1, x));
+        length += 1;
+        if x == first {
+            return length;
+        }
+    }
+}

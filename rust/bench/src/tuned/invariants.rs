@@ -1,0 +1,70 @@
+//! The invariants of a diagram, and of one that is known to be one.
+use super::check::check;
+use super::SMALL;
+use crate::library::Numbers;
+use crate::table::MAX_SIZE;
+
+pub fn invariants(s0: &[u16], s1: &[u16], root: u64) -> Result<Numbers, u16> {
+    check(s0, s1, root)?;
+    Ok(measure(s0, s1))
+}
+
+pub fn measure(s0: &[u16], s1: &[u16]) -> Numbers {
+    let n = s0.len();
+    let (c, level) = if n <= SMALL { cycles_small(s0, s1) } else { cycles(s0, s1) };
+    let e2 = fixed(s1);
+    let e3 = fixed(s0);
+    Numbers { e2, e3, c, t: 12 + n as i32 - 3 * e2 as i32 - 4 * e3 as i32 - 6 * c as i32, level }
+}
+
+fn fixed(s: &[u16]) -> u16 {
+    s.iter().zip(1u16..).map(|(&x, i)| (x == i) as u16).sum()
+}
+
+#[inline(always)]
+fn onward(s0: &[u16], s1: &[u16], i: usize) -> usize {
+    s0[s1[i] as usize - 1] as usize - 1
+}
+
+/// The number of cycles of i to s0(s1(i)) and the longest; the edges not yet walked as a bit set.
+fn cycles_small(s0: &[u16], s1: &[u16]) -> (u16, u16) {
+    let mut left = u64::MAX >> (SMALL - s0.len());
+    let (mut count, mut longest) = (0, 0);
+    while left != 0 {
+        let first = left.trailing_zeros() as usize;
+        let (mut i, mut length) = (first, 0);
+        loop {
+            left &= !(1 << (i & 63));
+            i = onward(s0, s1, i);
+            length += 1;
+            if i == first {
+                break;
+            }
+        }
+        count += 1;
+        longest = longest.max(length);
+    }
+    (count, longest)
+}
+
+fn cycles(s0: &[u16], s1: &[u16]) -> (u16, u16) {
+    let mut seen = [false; MAX_SIZE];
+    let (mut count, mut longest) = (0, 0);
+    for first in 0..s0.len() {
+        if seen[first] {
+            continue;
+        }
+        let (mut i, mut length) = (first, 0);
+        loop {
+            seen[i] = true;
+            i = onward(s0, s1, i);
+            length += 1;
+            if i == first {
+                break;
+            }
+        }
+        count += 1;
+        longest = longest.max(length);
+    }
+    (count, longest)
+}
