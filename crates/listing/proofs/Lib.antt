@@ -2,3 +2,4 @@ pub mod Parts
 pub mod Blocks
 pub mod Midlist
 pub mod Refusals
+pub mod Marking

@@ -58,7 +58,7 @@ same-length-4 : tie.Need-same-length-4
 same-length-4 c = search needs
 
 returns-4 : tie.Need-returns-4
-returns-4 c = search needs
+returns-4 c = inr (c .before .before .before .before .before .before .before .before .before .rows-of .ensures)
 
 pub list-spec : {M : Type 1} → statement M
 list-spec =
