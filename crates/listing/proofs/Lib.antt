@@ -3,3 +3,4 @@ pub mod Blocks
 pub mod Midlist
 pub mod Refusals
 pub mod Marking
+pub mod Whole
