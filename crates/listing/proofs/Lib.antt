@@ -2,3 +2,5 @@ pub mod Parts
 pub mod Blocks
 pub mod Midlist
 pub mod Refusals
+pub mod Marking
+pub mod Whole

@@ -1,12 +1,16 @@
 -- What a listing promises before its first row: the refusals, and a run that is finished.
 use mathlib.Core.Path.{_≡_, refl}
-use mathlib.Core.Logic.{_≢_, _⊎_, inl, inr}
+use mathlib.Core.Logic.{_≢_}
 use mathlib.Core.List.{List}
 use Prim.Native.Nat.{ℕ}
 use Rattle.running.specs.declared.Run.{Run}
 use Rattle.running.specs.Promises.{Stands, Over}
 use Rattle.running.specs.Sound.{Sound}
 use Rattle.running.proofs.Standing.{Standing, standing, finished-over, over-sound, stands-sound}
+use Rattle.listing.specs.Promises.{Same}
+
+pub same-lists : (a0 a1 aw al : List ℕ) → Same a0 a1 aw al a0 a1 aw al
+same-lists a0 a1 aw al = record { s0-same = refl; s1-same = refl; words-same = refl; lengths-same = refl }
 
 -- neither fresh, nor at a diagram, nor finished
 pub stands-nowhere : (run : Run) → ¬ Sound run → ((n p : ℕ) → ¬ Stands n p run) × ((n : ℕ) → ¬ Over n run)

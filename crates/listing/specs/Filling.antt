@@ -1,16 +1,22 @@
--- One row of a block: the diagram of a word, written behind the rows before it.
+-- One row of a block: the diagram of a word, written behind the rows before it; and a block that is written, whose rows are then marked.
 -- Lists named a are as they were before, lists named b as they are after.
 --
 --   Room n w at place i ..     w is a word of n edges, and the lists have places for it: black and white from `at` on, the word from `place` on,
 --                              its length at i
 --   Row w at place i ..        they hold it there, and are else as they were
+--   Holds n p k ..             the lists begin with the k diagrams after position p
+--   Marked n p k am bm         the keep marks of these are written into the list am, now bm
 use mathlib.Core.Path.{_≡_}
-use mathlib.Core.List.{List}
+use mathlib.Core.List.{List, _++_}
 use Prim.Native.Nat.{ℕ, _+_, _≤_, _<_}
 use lib.ListN.{length, set}
+use Rattle.lists.specs.Ranges.{Edge}
 use Rattle.words.specs.Shape.{Word}
+use Rattle.words.specs.Outputs.{over}
+use Rattle.counting.specs.Listing.{count}
 use Rattle.counting.specs.Diagrams.{diagramOf}
 use Rattle.walking.specs.Walk.{from}
+use Rattle.listing.specs.Rows.{blacks, whites, flatWords, lengths, Marks}
 
 pub record Room (n : ℕ) (w : List ℕ) (at place i : ℕ) (a0 a1 aw al : List ℕ) : Type 0 where
   pub small : n ≤ 50
@@ -25,3 +31,20 @@ pub record Row (w : List ℕ) (at place i : ℕ) (a0 a1 aw al b0 b1 bw bl : List
   pub s1-is : b1 ≡ from at (diagramOf w .white) a1
   pub words-is : bw ≡ from place w aw
   pub lengths-is : bl ≡ set al i (length w)
+
+pub record Holds (n p k : ℕ) (b0 b1 bw bl : List ℕ) : Type 0 where
+  pub sized : Edge 50 n
+  pub within : p + k ≤ count n
+  pub rest0 : List ℕ
+  pub s0-is : b0 ≡ blacks n p k ++ rest0
+  pub rest1 : List ℕ
+  pub s1-is : b1 ≡ whites n p k ++ rest1
+  pub rest-words : List ℕ
+  pub words-is : bw ≡ flatWords n p k ++ rest-words
+  pub rest-lengths : List ℕ
+  pub lengths-is : bl ≡ lengths n p k ++ rest-lengths
+
+pub record Marked (n p k : ℕ) (am bm : List ℕ) : Type 0 where
+  pub marks : List ℕ
+  pub are : Marks n p k marks
+  pub written : bm ≡ over marks am

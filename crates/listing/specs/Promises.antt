@@ -5,6 +5,7 @@
 --   Block n p k ..            the lists hold the k diagrams after position p, and after them what they held
 --   Leaves n p rows k next    k is how many of the rows asked for the list still has after position p, and next is the run after them
 --   Lists run rows ..         the promise of `list`
+--   ListsMarked run rows ..   the promise of `list_marked`
 use mathlib.Core.Path.{_≡_}
 use mathlib.Core.Logic.{_⊎_}
 use mathlib.Core.List.{List}
@@ -16,7 +17,7 @@ use Rattle.running.specs.declared.Run.{Run}
 use Rattle.running.specs.Promises.{given, finished, Stands, Over}
 use Rattle.listing.specs.declared.Listing.{Listing}
 use Rattle.listing.specs.declared.Listing.the-variants as listing
-use Rattle.listing.specs.Rows.{blacks, whites, flatWords, lengths}
+use Rattle.listing.specs.Rows.{blacks, whites, flatWords, lengths, Marks}
 
 abbrev pub ShortRows : ℕ → ℕ → List ℕ → List ℕ → List ℕ → List ℕ → Type 0
 ShortRows n rows a0 a1 aw al = (length a0 < rows * n) ⊎ ((length a1 < rows * n) ⊎ ((length aw < rows * suc n) ⊎ (length al < rows)))
@@ -58,3 +59,30 @@ Lists run rows a0 a1 aw al next b0 b1 bw bl (listing.Rows k) =
     (((n : ℕ) × Over n run) × (k ≡ 0) × (next ≡ run) × Same a0 a1 aw al b0 b1 bw bl) ⊎ Gave run rows k next a0 a1 aw al b0 b1 bw bl
 Lists run rows a0 a1 aw al next b0 b1 bw bl (listing.Refused number) =
     RefusedList run rows a0 a1 aw al number × (next ≡ run) × Same a0 a1 aw al b0 b1 bw bl
+
+-- ---- with the keep marks: a list of marks more
+
+abbrev pub ShortMarked : ℕ → ℕ → List ℕ → List ℕ → List ℕ → List ℕ → List ℕ → Type 0
+ShortMarked n rows a0 a1 aw al am = ShortRows n rows a0 a1 aw al ⊎ (length am < rows)
+
+abbrev pub RefusedMarked : Run → ℕ → List ℕ → List ℕ → List ℕ → List ℕ → List ℕ → ℕ → Type 0
+RefusedMarked run rows a0 a1 aw al am number =
+    ((number ≡ 34) × ((n p : ℕ) → ¬ Stands n p run) × ((n : ℕ) → ¬ Over n run))
+    ⊎ ((number ≡ 9) × ((n : ℕ) × (p : ℕ) × Stands n p run × ShortMarked n rows a0 a1 aw al am))
+
+pub record GaveMarked (run : Run) (rows k : ℕ) (next : Run) (a0 a1 aw al am b0 b1 bw bl bm : List ℕ) : Type 0 where
+  pub size : ℕ
+  pub place : ℕ
+  pub stands : Stands size place run
+  pub roomy : ¬ ShortMarked size rows a0 a1 aw al am
+  pub leaves : Leaves size place rows k next
+  pub written : Block size place k a0 a1 aw al b0 b1 bw bl
+  pub marks : List ℕ
+  pub marks-are : Marks size place k marks
+  pub marks-written : bm ≡ over marks am
+
+abbrev pub ListsMarked : Run → ℕ → List ℕ → List ℕ → List ℕ → List ℕ → List ℕ → Run → List ℕ → List ℕ → List ℕ → List ℕ → List ℕ → Listing → Type 0
+ListsMarked run rows a0 a1 aw al am next b0 b1 bw bl bm (listing.Rows k) =
+    (((n : ℕ) × Over n run) × (k ≡ 0) × (next ≡ run) × Same a0 a1 aw al b0 b1 bw bl × (bm ≡ am)) ⊎ GaveMarked run rows k next a0 a1 aw al am b0 b1 bw bl bm
+ListsMarked run rows a0 a1 aw al am next b0 b1 bw bl bm (listing.Refused number) =
+    RefusedMarked run rows a0 a1 aw al am number × (next ≡ run) × Same a0 a1 aw al b0 b1 bw bl × (bm ≡ am)

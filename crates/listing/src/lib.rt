@@ -1,7 +1,10 @@
 // Listing in blocks: the next diagrams of a run, as many as are asked for, one after another, as that many steps would give them. The run is
 // tested once for the whole block. Refuses 34, a run that is neither fresh, nor at a diagram, nor finished; a finished run answers "no rows";
-// then 9, an output list that is short. Fewer rows than asked for: the list ended, and the run is finished.
+// then 9, an output list that is short. Fewer rows than asked for: the list ended, and the run is finished. With marks, the keep mark of each
+// diagram comes too: the arrays of a labelling are made once for the block, and no diagram that was written here is checked.
+use canonical::rootings::none_before;
 use lists::fill;
+use lists::wide;
 use running::Run;
 use running::sound;
 use succession::following;
@@ -11,9 +14,12 @@ ghost use mathlib.Core.Logic.{_⊎_};
 ghost use mathlib.Core.Bool.{true, false};
 ghost use Prim.Native.Nat.{ℕ, suc, _*_, _≤_, _<_};
 ghost use lib.ListN.{length};
+ghost use Rattle.diagrams.specs.Check.{Accepts};
+ghost use Rattle.labelled.specs.Scratch.{Ready};
+ghost use Rattle.canonical.specs.Among.{NoneBefore};
 ghost use Rattle.running.specs.Promises.{Stands};
-ghost use Rattle.listing.specs.Filling.{Room, Row};
-ghost use Rattle.listing.specs.Promises.{ShortRows, Gave, Lists};
+ghost use Rattle.listing.specs.Filling.{Room, Row, Holds, Marked};
+ghost use Rattle.listing.specs.Promises.{ShortRows, Gave, Lists, ListsMarked};
 
 // How many diagrams were written, or a refusal.
 pub enum Listing {
@@ -24,6 +30,12 @@ pub enum Listing {
 pub struct Listed {
     pub answer: Listing,
     pub run: Run,
+}
+
+// How many rows were written, and the run after them.
+struct Reached {
+    rows: usize,
+    run: Run,
 }
 
 // Whether a list has fewer places than rows of so many places each.
@@ -80,10 +92,10 @@ fn rows_of(
     s1: &mut [u16],
     words: &mut [u16],
     lengths: &mut [u16],
-) -> Listed
+) -> Reached
     requires { ⌜ ((p : ℕ) × Stands (run .size) p run × (¬ ShortRows (run .size) rows (now s0) (now s1) (now words) (now lengths))) ⌝ }
-    ensures { λ r. ⌜ Lists run rows (now (s0 .entry)) (now (s1 .entry)) (now (words .entry)) (now (lengths .entry))
-        (r .run) (now (s0 .exit)) (now (s1 .exit)) (now (words .exit)) (now (lengths .exit)) (r .answer) ⌝ }
+    ensures { λ r. ⌜ Gave run rows (r .rows) (r .run) (now (s0 .entry)) (now (s1 .entry)) (now (words .entry)) (now (lengths .entry))
+        (now (s0 .exit)) (now (s1 .exit)) (now (words .exit)) (now (lengths .exit)) ⌝ }
 {
     let n = run.size as u16;
     let size = run.size as usize;
@@ -96,8 +108,8 @@ fn rows_of(
     while i < rows {
         let next = following(&items[..length], n);
         if next.length == 0 {
-            return Listed {
-                answer: Listing::Rows(i as u64),
+            return Reached {
+                rows: i,
                 run: Run {
                     size: run.size,
                     stage: 2,
@@ -114,8 +126,8 @@ fn rows_of(
         place += length;
         i += 1;
     }
-    Listed {
-        answer: Listing::Rows(i as u64),
+    Reached {
+        rows: i,
         run: Run {
             size: run.size,
             stage,
@@ -162,5 +174,124 @@ pub fn list(
             run,
         };
     }
-    rows_of(run, rows as usize, s0, s1, words, lengths)
+    let reached = rows_of(run, rows as usize, s0, s1, words, lengths);
+    let next = reached.run;
+    Listed {
+        answer: Listing::Rows(reached.rows as u64),
+        run: next,
+    }
+}
+
+// 1 where no rooting's word comes before own, and 0 where one does.
+fn mark(
+    s0: &[u16],
+    s1: &[u16],
+    labels: &mut [u16; 1025],
+    order: &mut [u16; 1025],
+    next: &mut [u16; 1025],
+    prev: &mut [u16; 1025],
+    own: &[u16],
+    cand: &mut [u16],
+) -> u8
+    requires { ⌜ Accepts (now s0) (now s1) 1 ⌝ }
+    requires { ⌜ Ready (now labels) (now order) (now next) (now prev) ⌝ }
+    requires { ⌜ length (now s0) < length (now cand) ⌝ }
+    ensures answer { λ r. ⌜ (((r ≡ 1) × NoneBefore (now (s0 .entry)) (now (s1 .entry)) (now (own .entry)))
+        ⊎ ((r ≡ 0) × (¬ NoneBefore (now (s0 .entry)) (now (s1 .entry)) (now (own .entry))))) ⌝ }
+    ensures ready { λ _. ⌜ Ready (now (labels .exit)) (now (order .exit)) (now (next .exit)) (now (prev .exit)) ⌝ }
+{
+    if none_before(s0, s1, labels, order, next, prev, own, cand) {
+        return 1;
+    }
+    0
+}
+
+// Marks the rows of a block that is written: which of its diagrams are kept.
+fn mark_rows(
+    n: usize,
+    rows: usize,
+    s0: &[u16],
+    s1: &[u16],
+    words: &[u16],
+    lengths: &[u16],
+    marks: &mut [u8],
+)
+    requires { ⌜ ((p : ℕ) × Holds n p rows (now s0) (now s1) (now words) (now lengths)) × (rows ≤ length (now marks)) ⌝ }
+    ensures { λ _. ⌜ ((p : ℕ) → Holds n p rows (now (s0 .entry)) (now (s1 .entry)) (now (words .entry)) (now (lengths .entry))
+        → Marked n p rows (now (marks .entry)) (now (marks .exit))) ⌝ }
+{
+    let mut labels = [0u16; 1025];
+    let mut order = [0u16; 1025];
+    let mut next = [0u16; 1025];
+    let mut prev = [0u16; 1025];
+    let mut cand = [0u16; 51];
+    let mut at: usize = 0;
+    let mut place: usize = 0;
+    let mut i: usize = 0;
+    while i < rows {
+        let after = at + n;
+        let end = place + wide(lengths[i]);
+        let m = mark(
+            &s0[at..after],
+            &s1[at..after],
+            &mut labels,
+            &mut order,
+            &mut next,
+            &mut prev,
+            &words[place..end],
+            &mut cand,
+        );
+        marks[i] = m;
+        at = after;
+        place = end;
+        i += 1;
+    }
+}
+
+// The same with the keep mark of each diagram, 1 or 0.
+pub fn list_marked(
+    run: Run,
+    rows: u64,
+    s0: &mut [u16],
+    s1: &mut [u16],
+    words: &mut [u16],
+    lengths: &mut [u16],
+    marks: &mut [u8],
+) -> Listed
+    ensures { λ r. ⌜ ListsMarked run rows (now (s0 .entry)) (now (s1 .entry)) (now (words .entry)) (now (lengths .entry)) (now (marks .entry))
+        (r .run) (now (s0 .exit)) (now (s1 .exit)) (now (words .exit)) (now (lengths .exit)) (now (marks .exit)) (r .answer) ⌝ }
+{
+    if !sound(run) {
+        return Listed {
+            answer: Listing::Refused(34),
+            run,
+        };
+    }
+    if run.stage == 2 {
+        return Listed {
+            answer: Listing::Rows(0),
+            run,
+        };
+    }
+    let count = rows as usize;
+    let n = run.size as usize;
+    if short_rows(n, count, s0.len(), s1.len(), words.len(), lengths.len()) {
+        return Listed {
+            answer: Listing::Refused(9),
+            run,
+        };
+    }
+    if marks.len() < count {
+        return Listed {
+            answer: Listing::Refused(9),
+            run,
+        };
+    }
+    let reached = rows_of(run, count, s0, s1, words, lengths);
+    mark_rows(n, reached.rows, s0, s1, words, lengths, marks);
+    let next = reached.run;
+    Listed {
+        answer: Listing::Rows(reached.rows as u64),
+        run: next,
+    }
 }

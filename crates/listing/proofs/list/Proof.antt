@@ -2,17 +2,11 @@
 use borrow.Author.Needs.{needs}
 use mathlib.Core.Path.{refl}
 use mathlib.Core.Logic.{inl, inr}
-use mathlib.Core.List.{List}
-use Prim.Native.Nat.{ℕ}
 use borrow.Author.Tests.{not-true, not-false}
 use Rattle.running.specs.Sound.{Sound}
-use Rattle.listing.specs.Promises.{Same}
-use Rattle.listing.proofs.Refusals.{stands-nowhere, is-over, stands-at}
+use Rattle.listing.proofs.Refusals.{same-lists, stands-nowhere, is-over, stands-at}
 use Rattle.listing.proofs.list.Statement.{statement}
 use Rattle.listing.proofs.list.Tie as tie
-
-same : (a0 a1 aw al : List ℕ) → Same a0 a1 aw al a0 a1 aw al
-same a0 a1 aw al = record { s0-same = refl; s1-same = refl; words-same = refl; lengths-same = refl }
 
 -- past the first test the run is sound
 is-sound : (c : tie.Else1) → Sound (c .before .before .before .before .before .before .args .run)
@@ -25,10 +19,10 @@ returns : tie.Need-returns
 returns c =
     let a = c .before .before .before .before .before .before .args in
     let k = stands-nowhere (a .run) (c .before .sound .ensures .1 (not-true _ (c .if1 .taken))) in
-    (inl (refl, k .0, k .1), refl, same _ _ _ _)
+    (inl (refl, k .0, k .1), refl, same-lists _ _ _ _)
 
 returns-2 : tie.Need-returns-2
-returns-2 c = let a = c .before .before .before .before .before .before .before .before .args in inl (is-over (a .run) (is-sound (c .before .before)) (c .if2 .taken), refl, refl, same _ _ _ _)
+returns-2 c = let a = c .before .before .before .before .before .before .before .before .args in inl (is-over (a .run) (is-sound (c .before .before)) (c .if2 .taken), refl, refl, same-lists _ _ _ _)
 
 short-rows-requires : tie.Need-short-rows-requires
 short-rows-requires c κs = is-sound (c .before .before) .sized
@@ -37,7 +31,7 @@ returns-3 : tie.Need-returns-3
 returns-3 c =
     let a = c .before .before .before .before .before .before .before .before .before .before .args in
     let T = stands-at (a .run) (is-sound (c .before .before .before .before)) (c .before .before .if2 .left) in
-    (inr (refl, (a .run .size, T .0, T .1, c .before .short-rows .ensures .0 (c .if3 .taken))), refl, same _ _ _ _)
+    (inr (refl, (a .run .size, T .0, T .1, c .before .short-rows .ensures .0 (c .if3 .taken))), refl, same-lists _ _ _ _)
 
 rows-of-requires : tie.Need-rows-of-requires
 rows-of-requires c κs =
@@ -58,7 +52,7 @@ same-length-4 : tie.Need-same-length-4
 same-length-4 c = search needs
 
 returns-4 : tie.Need-returns-4
-returns-4 c = search needs
+returns-4 c = inr (c .before .before .before .before .before .before .before .before .before .rows-of .ensures)
 
 pub list-spec : {M : Type 1} → statement M
 list-spec =

@@ -2,7 +2,6 @@
 use borrow.Author.Needs.{needs}
 use Prim.Native.Nat.{_≤_, _-_}
 use mathlib.Core.Path.{_≡_, sym}
-use mathlib.Core.Logic.{inr}
 use native.Mathlib.Omega.{arith}
 use lib.ListN.{length, take}
 use lib.Seq.{length-take-le}
@@ -60,7 +59,7 @@ same-length-4 : tie.Need-same-length-4 Inv-loop μ-loop
 same-length-4 c = mid-long (c .before .before .before .before .before .loop .inv) .lengths
 
 returns : tie.Need-returns Inv-loop μ-loop
-returns c = inr (mid-ends (c .before .before .before .before .before .loop .inv) (c .before .before .following .result) (c .before .before .following .ensures) (c .before .before .before .before .loop-test .taken) (c .if1 .taken))
+returns c = mid-ends (c .before .before .before .before .before .loop .inv) (c .before .before .following .result) (c .before .before .following .ensures) (c .before .before .before .before .loop-test .taken) (c .if1 .taken)
 
 array-share-prefix-items-2 : tie.Need-array-share-prefix-items-2 Inv-loop μ-loop
 array-share-prefix-items-2 c = next-within (c .before)
@@ -109,7 +108,7 @@ same-length-8 : tie.Need-same-length-8 Inv-loop μ-loop
 same-length-8 c = mid-long (c .before .loop .inv) .lengths
 
 returns-2 : tie.Need-returns-2 Inv-loop μ-loop
-returns-2 c = inr (mid-done (c .before .loop .inv) (c .loop-test .left))
+returns-2 c = mid-done (c .before .loop .inv) (c .loop-test .left)
 
 pub rows-of-spec : {M : Type 1} → statement M
 rows-of-spec =

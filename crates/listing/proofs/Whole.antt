@@ -1,0 +1,59 @@
+-- A block that was written is one whose rows can be marked, and marked it is what `list_marked` promises.
+use mathlib.Core.Path.{_≡_, refl, sym, ap, _∙_}
+use mathlib.Core.Logic.{_⊎_, inl, inr}
+use mathlib.Core.List.{List}
+use Prim.Native.Nat.{ℕ, zero, suc, _+_, _≤_, _<_}
+use native.Mathlib.Omega.{arith}
+use lib.ListN.{length, drop}
+use Rattle.counting.specs.Listing.{count}
+use Rattle.running.specs.declared.Run.{Run}
+use Rattle.running.specs.Promises.{Stands}
+use Rattle.listing.specs.Rows.{blacks, whites, flatWords, lengths}
+use Rattle.listing.specs.Filling.{Holds, Marked}
+use Rattle.listing.specs.Promises.{ShortRows, ShortMarked, Leaves, Gave, GaveMarked}
+
+-- the size is the run's
+stands-size : (n p : ℕ) (run : Run) → Stands n p run → run .size ≡ n
+stands-size n zero run T = ap (λ (r : Run). r .size) (T .is)
+stands-size n (suc p) run T = ap (λ (r : Run). r .size) (T .is)
+
+leaves-within : (n p rows k : ℕ) (next : Run) → Leaves n p rows k next → (p + k ≤ count n) × (k ≤ rows)
+leaves-within n p rows k next (inl l) = let a = l .0 in (l .1, omega arith)
+leaves-within n p rows k next (inr l) = let a = l .0 in let b = l .1 in (omega arith, omega arith)
+
+module _ {run : Run} {rows k : ℕ} {next : Run} {a0 a1 aw al b0 b1 bw bl : List ℕ} (G : Gave run rows k next a0 a1 aw al b0 b1 bw bl) where
+  pub gave-holds : Holds (run .size) (G .place) k b0 b1 bw bl
+  gave-holds = rw (stands-size (G .size) (G .place) run (G .stands)) record {
+    sized = G .stands .sized;
+    within = leaves-within (G .size) (G .place) rows k next (G .leaves) .0;
+    rest0 = drop (length (blacks (G .size) (G .place) k)) a0;
+    s0-is = G .written .s0-written;
+    rest1 = drop (length (whites (G .size) (G .place) k)) a1;
+    s1-is = G .written .s1-written;
+    rest-words = drop (length (flatWords (G .size) (G .place) k)) aw;
+    words-is = G .written .words-written;
+    rest-lengths = drop (length (lengths (G .size) (G .place) k)) al;
+    lengths-is = G .written .lengths-written;
+  }
+
+  pub gave-few : k ≤ rows
+  gave-few = leaves-within (G .size) (G .place) rows k next (G .leaves) .1
+
+  pub gave-marked : (am bm : List ℕ) → rows ≤ length am → Marked (run .size) (G .place) k am bm → GaveMarked run rows k next a0 a1 aw al am b0 b1 bw bl bm
+  gave-marked am bm l M0 =
+      let M : Marked (G .size) (G .place) k am bm = rw (stands-size (G .size) (G .place) run (G .stands)) at M0 in
+      record {
+        size = G .size;
+        place = G .place;
+        stands = G .stands;
+        roomy = roomy;
+        leaves = G .leaves;
+        written = G .written;
+        marks = M .marks;
+        marks-are = M .are;
+        marks-written = M .written;
+      }
+    where
+      roomy : ¬ ShortMarked (G .size) rows a0 a1 aw al am
+      roomy (inl s) = G .roomy s
+      roomy (inr s) = omega arith
