@@ -120,6 +120,17 @@ uint16_t kaldvemir_begin(uint64_t size, kaldvemir_run *run);
 uint16_t kaldvemir_step(kaldvemir_run *run, uint16_t *s0, size_t s0_len, uint16_t *s1, size_t s1_len, uint16_t *word, size_t word_len,
                         uint64_t *length);
 
+/* Run, listing in blocks: as `rows` steps would, writes the next diagrams of the run's size, at most that many of them, one after another: s0
+ * and s1 hold n entries for each, words their words and lengths the words' lengths; *given is how many there are. Fewer than `rows`: the list has
+ * ended, and the run is finished. 34; 9 an output list is short: rows n, rows n, rows (n + 1) for the words, rows for the lengths. */
+uint16_t kaldvemir_list(kaldvemir_run *run, uint64_t rows, uint16_t *s0, size_t s0_len, uint16_t *s1, size_t s1_len,
+                        uint16_t *words, size_t words_len, uint16_t *lengths, size_t lengths_len, uint64_t *given);
+
+/* The same with the keep mark of each diagram, 1 where it is kept and otherwise 0. 34; 9, also where there are fewer than `rows` marks. */
+uint16_t kaldvemir_list_marked(kaldvemir_run *run, uint64_t rows, uint16_t *s0, size_t s0_len, uint16_t *s1, size_t s1_len,
+                               uint16_t *words, size_t words_len, uint16_t *lengths, size_t lengths_len, uint8_t *marks, size_t marks_len,
+                               uint64_t *given);
+
 /* ---- the share book. All but open refuse 50, a book that is not sound; all but open and report then 52, a tick below the latest or from 2^48
  * on. A refused call leaves the book as it was; an accepted one keeps its tick as the latest. */
 

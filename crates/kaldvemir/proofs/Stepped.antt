@@ -15,10 +15,10 @@ given-size : (n p : ℕ) → given n p .size ≡ n
 given-size n zero = refl
 given-size n (suc p) = refl
 
-stands-size : (n p : ℕ) (run : Run) → Stands n p run → run .size ≡ n
+pub stands-size : (n p : ℕ) (run : Run) → Stands n p run → run .size ≡ n
 stands-size n p run S = ap (λ (r : Run). r .size) (S .is) ∙ given-size n p
 
-over-size : (n : ℕ) (run : Run) → Over n run → run .size ≡ n
+pub over-size : (n : ℕ) (run : Run) → Over n run → run .size ≡ n
 over-size n run O = ap (λ (r : Run). r .size) (O .is)
 
 ended-size : {A : Type 0} (n p : ℕ) (run : Run) → Over n run ⊎ (Stands n p run × A) → run .size ≡ n

@@ -33,6 +33,8 @@ use Rattle.running.specs.declared.Beginning.{Beginning}
 use Rattle.running.specs.declared.Beginning.the-variants as beginning
 use Rattle.running.specs.declared.Stepping.{Stepping}
 use Rattle.running.specs.declared.Stepping.the-variants as stepping
+use Rattle.listing.specs.declared.Listing.{Listing}
+use Rattle.listing.specs.declared.Listing.the-variants as listing
 use Rattle.book.specs.declared.types.Opening.{Opening}
 use Rattle.book.specs.declared.types.Opening.the-variants as opening
 use Rattle.book.specs.declared.types.Claiming.{Claiming}
@@ -189,6 +191,15 @@ abbrev pub step-length : Stepping → ℕ → ℕ
 step-length (stepping.Length m) old = m
 step-length stepping.End old = 0
 step-length (stepping.Refused k) old = old
+
+abbrev pub list-number : Listing → ℕ
+list-number (listing.Rows k) = 0
+list-number (listing.Refused k) = k
+
+-- how many diagrams were written
+abbrev pub list-rows : Listing → ℕ → ℕ
+list-rows (listing.Rows k) old = k
+list-rows (listing.Refused k) old = old
 
 -- ---- the share book
 

@@ -2,6 +2,7 @@
 use layout::long;
 use layout::runs::held;
 use layout::runs::put_back;
+use listing::Listing;
 use running::Beginning;
 use running::Stepping;
 ghost use mathlib.Core.Path.{_≡_};
@@ -9,6 +10,8 @@ ghost use Rattle.running.specs.Promises.{Begins, Steps};
 ghost use Rattle.running.specs.declared.Run.{Run};
 ghost use Rattle.running.specs.declared.Beginning.{Beginning};
 ghost use Rattle.running.specs.declared.Stepping.{Stepping};
+ghost use Rattle.listing.specs.Promises.{Lists, ListsMarked};
+ghost use Rattle.listing.specs.declared.Listing.{Listing};
 ghost use Rattle.kaldvemir.specs.Answers as answers;
 ghost use Rattle.layout.specs.Layout.{run-of, run-numbers};
 ghost use Rattle.layout.specs.Layout as layout;
@@ -61,6 +64,69 @@ pub extern "C" fn kaldvemir_step(
         Stepping::Length(m) => {
             put_back(run, 1, m, items);
             *written = long(m);
+            0
+        }
+    }
+}
+
+#[no_mangle]
+pub extern "C" fn kaldvemir_list(
+    run: &mut [u16; 54],
+    rows: u64,
+    s0: &mut [u16],
+    s1: &mut [u16],
+    words: &mut [u16],
+    lengths: &mut [u16],
+    given: &mut u64,
+) -> u16
+    ensures { λ r. ⌜ ((a : Listing) × (next : Run)
+        × Lists (run-of (now (run .entry))) rows (now (s0 .entry)) (now (s1 .entry)) (now (words .entry)) (now (lengths .entry))
+            next (now (s0 .exit)) (now (s1 .exit)) (now (words .exit)) (now (lengths .exit)) a
+        × (r ≡ answers.list-number a)
+        × (now (given .exit) ≡ answers.list-rows a (now (given .entry)))
+        × (now (run .exit) ≡ run-numbers next)) ⌝ }
+{
+    let listed = listing::list(held(*run), rows, s0, s1, words, lengths);
+    let answer = listed.answer;
+    let next = listed.run;
+    let items = next.items;
+    match answer {
+        Listing::Refused(k) => k,
+        Listing::Rows(k) => {
+            put_back(run, next.stage as u16, next.length as u16, items);
+            *given = k;
+            0
+        }
+    }
+}
+
+#[no_mangle]
+pub extern "C" fn kaldvemir_list_marked(
+    run: &mut [u16; 54],
+    rows: u64,
+    s0: &mut [u16],
+    s1: &mut [u16],
+    words: &mut [u16],
+    lengths: &mut [u16],
+    marks: &mut [u8],
+    given: &mut u64,
+) -> u16
+    ensures { λ r. ⌜ ((a : Listing) × (next : Run)
+        × ListsMarked (run-of (now (run .entry))) rows (now (s0 .entry)) (now (s1 .entry)) (now (words .entry)) (now (lengths .entry)) (now (marks .entry))
+            next (now (s0 .exit)) (now (s1 .exit)) (now (words .exit)) (now (lengths .exit)) (now (marks .exit)) a
+        × (r ≡ answers.list-number a)
+        × (now (given .exit) ≡ answers.list-rows a (now (given .entry)))
+        × (now (run .exit) ≡ run-numbers next)) ⌝ }
+{
+    let listed = listing::list_marked(held(*run), rows, s0, s1, words, lengths, marks);
+    let answer = listed.answer;
+    let next = listed.run;
+    let items = next.items;
+    match answer {
+        Listing::Refused(k) => k,
+        Listing::Rows(k) => {
+            put_back(run, next.stage as u16, next.length as u16, items);
+            *given = k;
             0
         }
     }

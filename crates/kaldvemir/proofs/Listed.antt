@@ -1,0 +1,38 @@
+-- The numbers of the run that a listing leaves: they fit 16 bits, and its size is the one that it had.
+use mathlib.Core.Path.{_≡_, refl, sym, _∙_, ap}
+use mathlib.Core.Logic.{_⊎_, inl, inr}
+use mathlib.Core.List.{List, _∷_}
+use Prim.Native.Nat.{ℕ, zero, suc, _+_, _≤_}
+use native.Mathlib.Omega.{arith}
+use lib.ListN.{length, getD}
+use Rattle.lists.specs.Ranges.{Edge}
+use Rattle.counting.specs.Listing.{count}
+use Rattle.positions.proofs.Answers.{at-length}
+use Rattle.running.specs.declared.Run.{Run}
+use Rattle.running.specs.Promises.{Stands, Over, given, finished}
+use Rattle.listing.specs.Promises.{Leaves, Gave, GaveMarked}
+use Rattle.layout.specs.Layout.{run-of, run-numbers}
+use Rattle.kaldvemir.proofs.Stepped.{stands-size, over-size}
+
+pub record Fitting (l : List ℕ) (next : Run) : Type 0 where
+  pub stage-small : next .stage ≤ 2
+  pub length-small : next .length ≤ 51
+  pub size-same : next .size ≡ getD l 0 0
+
+pub over-fits : (l : List ℕ) (n : ℕ) (next : Run) → Over n (run-of l) → next ≡ run-of l → Fitting l next
+over-fits l n next o e =
+    let f = e ∙ o .is in
+    record { stage-small = rw f (omega arith); length-small = rw f (omega arith); size-same = ap (λ (r : Run). r .size) e }
+
+at-fits : (l : List ℕ) (n q : ℕ) (next : Run) → Edge 50 n → q ≤ count n → getD l 0 0 ≡ n → next ≡ given n q → Fitting l next
+at-fits l n zero next b h s e = record { stage-small = rw e (omega arith); length-small = rw e (omega arith); size-same = rw (e, s) refl }
+at-fits l n (suc q) next b h s e =
+    let w = at-length n (suc q) (omega arith, h) in
+    record { stage-small = rw e (omega arith); length-small = rw e (omega arith); size-same = rw (e, s) refl }
+
+pub gave-fits : (l : List ℕ) (n p rows k : ℕ) (next : Run) → Stands n p (run-of l) → Leaves n p rows k next → Fitting l next
+gave-fits l n p rows k next s (inl (a, h, e)) = at-fits l n (p + k) next (s .sized) h (stands-size n p (run-of l) s) e
+gave-fits l n p rows k next s (inr (a, h, e)) = record { stage-small = rw e (omega arith); length-small = rw e (omega arith); size-same = rw (e, stands-size n p (run-of l) s) refl }
+
+pub fitting-numbers : (l : List ℕ) (next : Run) → Fitting l next → getD l 0 0 ∷ next .stage ∷ next .length ∷ next .items ≡ run-numbers next
+fitting-numbers l next f = rw (f .size-same) refl
