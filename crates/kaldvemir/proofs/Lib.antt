@@ -1,2 +1,2 @@
 mod Stepped
-mod Listed
+mod Blocks
