@@ -15,6 +15,7 @@ use Rattle.diagrams.specs.Check.{Accepts}
 use Rattle.words.specs.Word.{Pair}
 use Rattle.words.specs.Shape.{Word}
 use Rattle.words.specs.Outputs.{over}
+use Rattle.labelling.specs.Labelling.{wordOf}
 use Rattle.labelling.specs.Rootings.{Kept}
 use Rattle.labelling.proofs.OfLists.{spelled-wordOf, spelled-accepted}
 use Rattle.labelled.specs.Scratch.{Ready}
@@ -147,6 +148,11 @@ module _ {n p k : ℕ} {b0 b1 bw bl : List ℕ} (H : Holds n p k b0 b1 bw bl) (i
     unfolding diagramAt
     here-accepted = let E = here in let s = H .sized in rw (E .s0-is, E .s1-is) (spelled-accepted w D (spelled-of n w word) (let d = black-n in omega arith))
 
+    -- and its word is the root's
+    pub here-own : wordOf (take (at + n - at) (drop at b0)) (take (at + n - at) (drop at b1)) 1 ≡ take (place + l - place) (drop place bw)
+    unfolding diagramAt
+    here-own = let E = here in rw (E .s0-is, E .s1-is, E .word-is) (spelled-wordOf w D (spelled-of n w word))
+
     pub here-size : length (take (at + n - at) (drop at b0)) ≡ n
     here-size = ap length (here .s0-is) ∙ black-n
 
@@ -222,6 +228,9 @@ module _ {n rows : ℕ} {b0 b1 bw bl am bm la od nx pv cand : List ℕ} {at plac
 
         pub marking-accepted : Accepts (take (at + n - at) (drop at b0)) (take (at + n - at) (drop at b1)) 1
         marking-accepted = here-accepted H i h at place l (M .at-is) (M .upto p H .place-is) e
+
+        pub marking-own : wordOf (take (at + n - at) (drop at b0)) (take (at + n - at) (drop at b1)) 1 ≡ take (place + l - place) (drop place bw)
+        marking-own = here-own H i h at place l (M .at-is) (M .upto p H .place-is) e
 
         pub marking-small : length (take (at + n - at) (drop at b0)) < length cand
         marking-small = let s = H .sized in let z = here-size H i h at place l (M .at-is) (M .upto p H .place-is) e in let k = M .cand-long in omega arith

@@ -2,12 +2,13 @@
 // tested once for the whole block. Refuses 34, a run that is neither fresh, nor at a diagram, nor finished; a finished run answers "no rows";
 // then 9, an output list that is short. Fewer rows than asked for: the list ended, and the run is finished. With marks, the keep mark of each
 // diagram comes too: the arrays of a labelling are made once for the block, and no diagram that was written here is checked.
-use canonical::rootings::none_before;
+use labelled::tracing::trace;
 use lists::fill;
 use lists::wide;
 use running::Run;
 use running::sound;
 use succession::following;
+use words::precedes;
 use writing::write_diagram;
 ghost use mathlib.Core.Path.{_≡_};
 ghost use mathlib.Core.Logic.{_⊎_};
@@ -15,6 +16,7 @@ ghost use mathlib.Core.Bool.{true, false};
 ghost use Prim.Native.Nat.{ℕ, suc, _*_, _≤_, _<_};
 ghost use lib.ListN.{length};
 ghost use Rattle.diagrams.specs.Check.{Accepts};
+ghost use Rattle.labelling.specs.Labelling.{wordOf};
 ghost use Rattle.labelled.specs.Scratch.{Ready};
 ghost use Rattle.canonical.specs.Among.{NoneBefore};
 ghost use Rattle.running.specs.Promises.{Stands};
@@ -182,7 +184,7 @@ pub fn list(
     }
 }
 
-// 1 where no rooting's word comes before own, and 0 where one does.
+// 1 where no rooting's word comes before own, the word of the root 1, and 0 where one does. The root itself is not tried.
 fn mark(
     s0: &[u16],
     s1: &[u16],
@@ -196,14 +198,21 @@ fn mark(
     requires { ⌜ Accepts (now s0) (now s1) 1 ⌝ }
     requires { ⌜ Ready (now labels) (now order) (now next) (now prev) ⌝ }
     requires { ⌜ length (now s0) < length (now cand) ⌝ }
+    requires { ⌜ wordOf (now s0) (now s1) 1 ≡ now own ⌝ }
     ensures answer { λ r. ⌜ (((r ≡ 1) × NoneBefore (now (s0 .entry)) (now (s1 .entry)) (now (own .entry)))
         ⊎ ((r ≡ 0) × (¬ NoneBefore (now (s0 .entry)) (now (s1 .entry)) (now (own .entry))))) ⌝ }
     ensures ready { λ _. ⌜ Ready (now (labels .exit)) (now (order .exit)) (now (next .exit)) (now (prev .exit)) ⌝ }
 {
-    if none_before(s0, s1, labels, order, next, prev, own, cand) {
-        return 1;
+    let n = s0.len();
+    let mut x: usize = 1;
+    while x < n {
+        x += 1;
+        let k = trace(s0, s1, labels, order, next, prev, x as u16, own, cand);
+        if precedes(&cand[..k], own) {
+            return 0;
+        }
     }
-    0
+    1
 }
 
 // Marks the rows of a block that is written: which of its diagrams are kept.

@@ -5,7 +5,7 @@ use Prim.Native.Nat.{_-_, _<_}
 use native.Mathlib.Omega.{arith}
 use lib.ListN.{length, getD}
 use Rattle.labelled.proofs.Arrays.{zeros-ready}
-use Rattle.listing.proofs.Marking.{Marking, Rooms, marking-starts, marking-done, marking-length, marking-rooms, marking-accepted, marking-small, marking-again}
+use Rattle.listing.proofs.Marking.{Marking, Rooms, marking-starts, marking-done, marking-length, marking-rooms, marking-accepted, marking-own, marking-small, marking-again}
 use Rattle.listing.proofs.mark_rows.Statement.{statement}
 use Rattle.listing.proofs.mark_rows.Tie as tie
 
@@ -90,7 +90,7 @@ mark-requires c κs =
     let s = c .before .before .before .before .before .before .before .before .before .before .before .before .before .before .before .before .before .pre .0 in
     let m = c .before .before .before .before .before .before .before .before .before .before .before .loop .inv in
     let t = c .before .before .before .before .before .before .before .before .before .before .loop-test .taken in
-    (marking-accepted m t (d .wide .result) (d .wide .ensures) (s .0) (s .1), (m .ready, marking-small m t (d .wide .result) (d .wide .ensures) (s .0) (s .1)))
+    (marking-accepted m t (d .wide .result) (d .wide .ensures) (s .0) (s .1), (m .ready, (marking-small m t (d .wide .result) (d .wide .ensures) (s .0) (s .1), marking-own m t (d .wide .result) (d .wide .ensures) (s .0) (s .1))))
 
 slice-write-marks : tie.Need-slice-write-marks Inv-loop μ-loop
 slice-write-marks c = let t = c .before .before .before .before .before .before .before .before .before .before .before .before .loop-test .taken in let m = c .before .before .before .before .before .before .before .before .before .before .before .before .before .loop .inv .marks-long in let r = c .before .before .before .before .before .before .before .before .before .before .before .before .before .before .before .before .before .before .before .pre .1 in omega arith

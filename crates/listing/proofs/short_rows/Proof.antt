@@ -33,9 +33,9 @@ returns-4 : tie.Need-returns-4
 returns-4 c = (
   λ e. inr (inr (inr (ltb-true _ _ e))),
   λ e.
-  ⊎-elim (c .before .before .before .before .before .short .ensures .1 (c .before .before .before .before .if1 .left))
-  (⊎-elim (c .before .before .before .short2 .ensures .1 (c .before .before .if2 .left))
-  (⊎-elim (rw add-one at (c .before .short3 .ensures .1 (c .if3 .left))) (λ l. true≢false (sym (lt-ltb _ _ l) ∙ e)))),
+      ⊎-elim (c .before .before .before .before .before .short .ensures .1 (c .before .before .before .before .if1 .left))
+      (⊎-elim (c .before .before .before .short2 .ensures .1 (c .before .before .if2 .left))
+      (⊎-elim (rw add-one at (c .before .short3 .ensures .1 (c .if3 .left))) (λ l. true≢false (sym (lt-ltb _ _ l) ∙ e)))),
 )
 
 pub short-rows-spec : {M : Type 1} → statement M
