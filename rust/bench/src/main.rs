@@ -32,7 +32,8 @@ fn main() -> ExitCode {
     };
     agreement::all();
     println!("the library and both baselines agree on the inputs tried; now the times per call");
-    println!("baseline: the same method in plain Rust, and of whole lists Vidal's generator; tuned: plain Rust by methods of its own");
+    println!("baseline: the same method in plain Rust (of the census by single steps), and of whole lists Vidal's generator");
+    println!("tuned: plain Rust by methods of its own");
     timing::print_header();
     let mut missed = 0;
     for (name, row) in rows::ROWS {
