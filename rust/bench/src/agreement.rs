@@ -1,5 +1,6 @@
 //! Before anything is timed, the library and both baselines are given some thousands of the same inputs, good and damaged, and must
 //! give the same answers, the same lists and the same runs and books.
+use crate::blocks;
 use crate::generator::{generate, kept_known};
 use crate::lines::Page;
 use crate::random::{Diagram, Random};
@@ -17,6 +18,7 @@ pub fn all() {
     runs(&mut random);
     books(&mut random);
     lists();
+    lists_in_blocks();
     sums();
     censuses();
 }
@@ -262,21 +264,38 @@ fn lists() {
     }
 }
 
+fn lists_in_blocks() {
+    for size in 1..=14usize {
+        let (mut plain, mut marked, mut generated) = (vec![], vec![], vec![]);
+        blocks::list(size, library::list, |block, given| {
+            block.each(given, |s0, s1, word, _| plain.push((s0.to_vec(), s1.to_vec(), word.to_vec())));
+        });
+        blocks::list(size, library::list_marked, |block, given| {
+            block.each(given, |s0, s1, word, keep| marked.push((s0.to_vec(), s1.to_vec(), word.to_vec(), keep)));
+        });
+        generate(size, |s0, s1, word| generated.push((s0.to_vec(), s1.to_vec(), word.to_vec(), kept_known(s0, s1, word))));
+        equal("whole list in blocks with keep marks", &marked, &generated);
+        equal("whole list in blocks", plain, generated.into_iter().map(|(s0, s1, word, _)| (s0, s1, word)).collect());
+    }
+}
+
 /// The sums that whole lists are timed with.
 fn sums() {
-    equal("whole list", whole::by_steps(13), whole::by_generator(13));
-    equal("whole list with keep marks", whole::marked_by_steps(13), whole::marked_by_generator(13));
+    equal("whole list", whole::by_blocks(13), whole::by_generator(13));
+    equal("whole list by steps", whole::by_steps(13), whole::by_generator(13));
+    equal("whole list with keep marks", whole::marked_by_blocks(13), whole::marked_by_generator(13));
+    equal("whole list with keep marks by steps", whole::marked_by_steps(13), whole::marked_by_generator(13));
 }
 
 fn censuses() {
     for size in [1, 2, 3, 4, 9, 13] {
         let page = || Page::new(Some(Vec::new()));
-        let (mut a, mut b, mut c) = (page(), page(), page());
-        let kept = census::by_steps(&census::LIBRARY, size, &mut a);
-        equal("census", kept, census::by_steps(&census::SAME, size, &mut b));
-        equal("census", kept, census::by_generator(size, &mut c));
-        let [a, b, c] = [a, b, c].map(|page| page.kept.map(String::from_utf8));
-        equal("census", &a, &b);
-        equal("census", &a, &c);
+        let (mut a, mut b, mut c, mut d) = (page(), page(), page(), page());
+        let kept = census::by_blocks(size, &mut a);
+        equal("census", kept, census::by_steps(&census::LIBRARY, size, &mut b));
+        equal("census", kept, census::by_steps(&census::SAME, size, &mut c));
+        equal("census", kept, census::by_generator(size, &mut d));
+        let [a, others @ ..] = [a, b, c, d].map(|page| page.kept.map(String::from_utf8));
+        others.iter().for_each(|other| equal("census", &a, other));
     }
 }

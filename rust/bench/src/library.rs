@@ -1,4 +1,5 @@
 //! The library's operations with the signatures of the baselines: an answer, or the number of the refusal.
+use crate::blocks::Block;
 use crate::raw::{self, Book, Run};
 
 #[derive(Clone, Copy, PartialEq, Debug)]
@@ -102,6 +103,29 @@ pub fn step(run: &mut Run, s0: &mut [u16], s1: &mut [u16], word: &mut [u16]) -> 
         raw::kaldvemir_step(run, s0.as_mut_ptr(), s0.len(), s1.as_mut_ptr(), s1.len(), word.as_mut_ptr(), word.len(), &mut length)
     };
     answered(number, length as usize)
+}
+
+/// How many diagrams were written.
+pub fn list(run: &mut Run, rows: u64, Block { s0, s1, words, lengths, .. }: &mut Block) -> Result<u64, u16> {
+    let mut given = 0;
+    let number = unsafe {
+        raw::kaldvemir_list(
+            run, rows, s0.as_mut_ptr(), s0.len(), s1.as_mut_ptr(), s1.len(),
+            words.as_mut_ptr(), words.len(), lengths.as_mut_ptr(), lengths.len(), &mut given,
+        )
+    };
+    answered(number, given)
+}
+
+pub fn list_marked(run: &mut Run, rows: u64, Block { s0, s1, words, lengths, marks, .. }: &mut Block) -> Result<u64, u16> {
+    let mut given = 0;
+    let number = unsafe {
+        raw::kaldvemir_list_marked(
+            run, rows, s0.as_mut_ptr(), s0.len(), s1.as_mut_ptr(), s1.len(),
+            words.as_mut_ptr(), words.len(), lengths.as_mut_ptr(), lengths.len(), marks.as_mut_ptr(), marks.len(), &mut given,
+        )
+    };
+    answered(number, given)
 }
 
 pub fn open(book: &mut Book, size: u64, shares: u64) -> Result<(), u16> {

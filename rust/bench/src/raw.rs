@@ -45,6 +45,14 @@ extern "C" {
     pub fn kaldvemir_step(
         run: *mut Run, s0: *mut u16, s0_len: usize, s1: *mut u16, s1_len: usize, word: *mut u16, word_len: usize, length: *mut u64,
     ) -> u16;
+    pub fn kaldvemir_list(
+        run: *mut Run, rows: u64, s0: *mut u16, s0_len: usize, s1: *mut u16, s1_len: usize,
+        words: *mut u16, words_len: usize, lengths: *mut u16, lengths_len: usize, given: *mut u64,
+    ) -> u16;
+    pub fn kaldvemir_list_marked(
+        run: *mut Run, rows: u64, s0: *mut u16, s0_len: usize, s1: *mut u16, s1_len: usize,
+        words: *mut u16, words_len: usize, lengths: *mut u16, lengths_len: usize, marks: *mut u8, marks_len: usize, given: *mut u64,
+    ) -> u16;
     pub fn kaldvemir_open(book: *mut Book, size: u64, shares: u64) -> u16;
     pub fn kaldvemir_claim(book: *mut Book, tick: u64, share: u64, length: u64, ticket: *mut u64) -> u16;
     pub fn kaldvemir_take(

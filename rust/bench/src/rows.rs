@@ -8,7 +8,7 @@ pub mod whole;
 use crate::timing::{Row, Work};
 
 /// The name of each row, and how it is set up.
-pub const ROWS: [(&str, fn() -> Row); 20] = [
+pub const ROWS: [(&str, fn() -> Row); 25] = [
     ("check 1024", given::check),
     ("read word 1024", given::read_word),
     ("relabel 1024", given::relabel_large),
@@ -19,20 +19,25 @@ pub const ROWS: [(&str, fn() -> Row); 20] = [
     ("kept 24, random", listing::kept_random),
     ("run step 25", listing::steps),
     ("census line 20", census::census),
+    ("census line 20 by steps", census::census_by_steps),
     ("claim 24, 32 shares", books::claim_32),
     ("take 24, 32 shares", books::take_32),
     ("commit 24, 32 shares", books::commit_32),
     ("claim 24, 4 shares", books::claim_4),
     ("take 24, 4 shares", books::take_4),
     ("commit 24, 4 shares", books::commit_4),
-    ("whole list 20 by steps", whole::list_20),
-    ("whole list 22 by steps", whole::list_22),
+    ("whole list 20", whole::list_20),
+    ("whole list 22", whole::list_22),
     ("whole list 20 with keep marks", whole::marked_20),
     ("whole list 22 with keep marks", whole::marked_22),
+    ("whole list 20 by steps", whole::list_20_by_steps),
+    ("whole list 22 by steps", whole::list_22_by_steps),
+    ("whole list 20 marked, by steps", whole::marked_20_by_steps),
+    ("whole list 22 marked, by steps", whole::marked_22_by_steps),
 ];
 
 /// A row of an operation: the library, the same method and the tuned one, with the bar of 1.5.
 fn row<W: FnMut() -> u64 + 'static>(name: &'static str, calls: u64, library: W, same: W, tuned: W) -> Row {
     let sides: Vec<Work> = vec![Box::new(library), Box::new(same), Box::new(tuned)];
-    Row { name, calls, bar: 1.5, sides }
+    Row { name, calls, bar: Some(1.5), sides }
 }

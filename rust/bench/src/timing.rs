@@ -9,8 +9,8 @@ pub struct Row {
     pub name: &'static str,
     /// How many calls a piece of work makes.
     pub calls: u64,
-    /// The most that the library's time may be, as a multiple of the baseline's.
-    pub bar: f64,
+    /// The most that the library's time may be, as a multiple of the baseline's; none where the row is for information.
+    pub bar: Option<f64>,
     /// The library, the baseline that the bar is set by and, if there is one, the tuned one.
     pub sides: Vec<Work>,
 }
@@ -95,15 +95,18 @@ pub fn print_header() {
     );
 }
 
-/// Prints the row and returns whether the bar is met: the ratio of the medians, and the least and the greatest ratio of a repeat.
+/// Prints the row and returns whether its bar, if it has one, is met: the ratio of the medians, and the least and the greatest ratio of a repeat.
 pub fn print(row: &Row, times: &Times) -> bool {
     let (library, baseline) = (median(&times[0]), median(&times[1]));
     let ratio = library / baseline;
     let ratios = sorted(times[0].iter().zip(&times[1]).map(|(a, b)| a / b).collect());
     let spread = format!("{:.2}..{:.2}", ratios[0], ratios[ratios.len() - 1]);
-    let met = ratio <= row.bar;
-    let verdict = if met { "met" } else { "MISSED" };
-    print!("{:<32} {library:>11.1} {baseline:>11.1} {ratio:>6.2} {spread:>12} {:>4} {verdict:<6}", row.name, row.bar);
+    let met = row.bar.is_none_or(|bar| ratio <= bar);
+    let (bar, verdict) = match row.bar {
+        Some(bar) => (bar.to_string(), if met { "met" } else { "MISSED" }),
+        None => ("-".to_string(), ""),
+    };
+    print!("{:<32} {library:>11.1} {baseline:>11.1} {ratio:>6.2} {spread:>12} {bar:>4} {verdict:<6}", row.name);
     match times.get(2).map(|t| median(t)) {
         Some(tuned) => println!(" {tuned:>11.1} {:>6.2}", library / tuned),
         None => println!(),

@@ -7,6 +7,7 @@
 //! inputs on any number of cores.
 #![forbid(unsafe_code)]
 
+mod blocks;
 mod books;
 mod diagrams;
 mod given;
@@ -33,8 +34,10 @@ const PIECE: u64 = 5_000;
 type Comparison = fn(&mut Random, &mut Tally) -> Compared;
 
 /// Each comparison with the operations it compares.
-const COMPARISONS: [(Comparison, &[&str]); 19] = [
+const COMPARISONS: [(Comparison, &[&str]); 21] = [
     (given::kept, &["kept"]),
+    (blocks::list_marked, &["list marked"]),
+    (blocks::list, &["list"]),
     (given::symmetries, &["symmetries"]),
     (given::compare_unrooted, &["compare unrooted"]),
     (given::compare_rooted, &["compare rooted"]),
@@ -58,11 +61,13 @@ const COMPARISONS: [(Comparison, &[&str]); 19] = [
 /// The largest size that is run through whole.
 const WHOLE: u16 = 14;
 
-/// A piece of work, by its number: first the whole runs, then every comparison in turn.
+/// A piece of work, by its number: first the whole runs, by steps and in blocks, then every comparison in turn.
 fn piece(number: usize, seed: u64, tally: &mut Tally) -> Compared {
     let mut random = Random::new(seed, number as u64);
     if number < usize::from(WHOLE) {
-        return runs::whole(number as u16 + 1, &mut random, tally);
+        let size = number as u16 + 1;
+        runs::whole(size, &mut random, tally)?;
+        return blocks::whole(size, &mut random, tally);
     }
     let (comparison, operations) = COMPARISONS[(number - usize::from(WHOLE)) % COMPARISONS.len()];
     while operations.iter().any(|operation| tally.inputs(operation) < PIECE) {

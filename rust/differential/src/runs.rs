@@ -6,11 +6,11 @@ use crate::tally::{Compared, Difference, Tally};
 use kaldvemir::Refusal;
 use reference::{Run, Written};
 
-fn library_run(run: &Run) -> kaldvemir::Run {
+pub fn library_run(run: &Run) -> kaldvemir::Run {
     kaldvemir::Run { size: run.size, stage: run.stage, length: run.length, items: run.items }
 }
 
-fn reference_run(run: &kaldvemir::Run) -> Run {
+pub fn reference_run(run: &kaldvemir::Run) -> Run {
     Run { size: run.size, stage: run.stage, length: run.length, items: run.items }
 }
 
@@ -36,7 +36,7 @@ fn step(run: &mut Run, before: &Lists, tally: &mut Tally) -> Result<Option<Optio
 
 /// A few steps from anywhere, with damage now and then; a damaged run that is still sound goes on.
 pub fn steps(random: &mut Random, tally: &mut Tally) -> Compared {
-    let mut run = anywhere(random);
+    let mut run = anywhere(random, 40);
     for _ in 0..1 + random.below(6) {
         if random.percent(25) {
             damage(random, &mut run);
@@ -47,9 +47,9 @@ pub fn steps(random: &mut Random, tally: &mut Tally) -> Compared {
     Ok(())
 }
 
-/// A sound run: fresh, finished, or at a diagram; often near the ends of the listing.
-fn anywhere(random: &mut Random) -> Run {
-    let size = if random.percent(40) { random.between(1, 9) } else { random.between(1, 50) } as u16;
+/// A sound run: fresh, finished, or at a diagram; often near the ends of the listing, and of a size up to 9 in so many of a hundred cases.
+pub fn anywhere(random: &mut Random, small: usize) -> Run {
+    let size = if random.percent(small) { random.between(1, 9) } else { random.between(1, 50) } as u16;
     let count = reference::count(size.into()).expect("a size in range");
     let position = match random.below(10) {
         0 => return Run { size, stage: 0, length: 0, items: [0; 51] },
@@ -62,7 +62,7 @@ fn anywhere(random: &mut Random) -> Run {
     Run::at(size, position)
 }
 
-fn damage(random: &mut Random, run: &mut Run) {
+pub fn damage(random: &mut Random, run: &mut Run) {
     let used = usize::from(run.length).min(50);
     match random.below(8) {
         0 => run.size = random.near(&[0, 50, run.size.into()]) as u16,

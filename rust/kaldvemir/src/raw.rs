@@ -41,6 +41,14 @@ extern "C" {
     fn kaldvemir_step(
         run: *mut Run, s0: *mut u16, s0_len: usize, s1: *mut u16, s1_len: usize, word: *mut u16, word_len: usize, length: *mut u64,
     ) -> u16;
+    fn kaldvemir_list(
+        run: *mut Run, rows: u64, s0: *mut u16, s0_len: usize, s1: *mut u16, s1_len: usize,
+        words: *mut u16, words_len: usize, lengths: *mut u16, lengths_len: usize, given: *mut u64,
+    ) -> u16;
+    fn kaldvemir_list_marked(
+        run: *mut Run, rows: u64, s0: *mut u16, s0_len: usize, s1: *mut u16, s1_len: usize,
+        words: *mut u16, words_len: usize, lengths: *mut u16, lengths_len: usize, marks: *mut u8, marks_len: usize, given: *mut u64,
+    ) -> u16;
     fn kaldvemir_open(book: *mut Book, size: u64, shares: u64) -> u16;
     fn kaldvemir_claim(book: *mut Book, tick: u64, share: u64, length: u64, ticket: *mut u64) -> u16;
     fn kaldvemir_take(
@@ -145,6 +153,27 @@ pub(crate) fn begin(size: u64, run: &mut Run) -> u16 {
 
 pub(crate) fn step(run: &mut Run, s0: &mut [u16], s1: &mut [u16], word: &mut [u16], length: &mut u64) -> u16 {
     unsafe { kaldvemir_step(run, s0.as_mut_ptr(), s0.len(), s1.as_mut_ptr(), s1.len(), word.as_mut_ptr(), word.len(), length) }
+}
+
+/// The four lists are s0, s1, the words and their lengths.
+pub(crate) fn list(run: &mut Run, rows: u64, [s0, s1, words, lengths]: [&mut [u16]; 4], given: &mut u64) -> u16 {
+    unsafe {
+        kaldvemir_list(
+            run, rows, s0.as_mut_ptr(), s0.len(), s1.as_mut_ptr(), s1.len(),
+            words.as_mut_ptr(), words.len(), lengths.as_mut_ptr(), lengths.len(), given,
+        )
+    }
+}
+
+pub(crate) fn list_marked(
+    run: &mut Run, rows: u64, [s0, s1, words, lengths]: [&mut [u16]; 4], marks: &mut [u8], given: &mut u64,
+) -> u16 {
+    unsafe {
+        kaldvemir_list_marked(
+            run, rows, s0.as_mut_ptr(), s0.len(), s1.as_mut_ptr(), s1.len(),
+            words.as_mut_ptr(), words.len(), lengths.as_mut_ptr(), lengths.len(), marks.as_mut_ptr(), marks.len(), given,
+        )
+    }
 }
 
 pub(crate) fn open(book: &mut Book, size: u64, shares: u64) -> u16 {

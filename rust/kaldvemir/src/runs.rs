@@ -1,5 +1,5 @@
-//! The run: the diagrams of a size one after another.
-use crate::answers::{answered, left, length, UNWRITTEN};
+//! The run: the diagrams of a size one after another, by single steps or in blocks.
+use crate::answers::{answered, given, left, length, UNWRITTEN};
 use crate::raw;
 use crate::Refusal;
 
@@ -33,5 +33,20 @@ impl Run {
     pub fn step(&mut self, s0: &mut [u16], s1: &mut [u16], word: &mut [u16]) -> Result<Option<usize>, Refusal> {
         let length = length(|length| raw::step(self, s0, s1, word, length))?;
         Ok(if length == 0 { None } else { Some(length) })
+    }
+
+    /// Listing in blocks: as so many steps would, writes the next diagrams one after another, at most `rows` of them, and returns how many
+    /// there are. `s0` and `s1` hold n entries for each, `words` their words and `lengths` the words' lengths. Fewer than `rows`: the list has
+    /// ended, and the run is finished. Refuses 34; a finished run then answers 0; 9 where an output list has fewer than `rows` times n, n,
+    /// n + 1 and 1 places.
+    pub fn list(&mut self, rows: u64, s0: &mut [u16], s1: &mut [u16], words: &mut [u16], lengths: &mut [u16]) -> Result<u64, Refusal> {
+        given(|given| raw::list(self, rows, [s0, s1, words, lengths], given))
+    }
+
+    /// The same with the keep mark of each diagram, 1 where it is kept and otherwise 0. Refuses 9 also where there are fewer than `rows` marks.
+    pub fn list_marked(
+        &mut self, rows: u64, s0: &mut [u16], s1: &mut [u16], words: &mut [u16], lengths: &mut [u16], marks: &mut [u8],
+    ) -> Result<u64, Refusal> {
+        given(|given| raw::list_marked(self, rows, [s0, s1, words, lengths], marks, given))
     }
 }

@@ -53,6 +53,46 @@ fn a_whole_run() {
 }
 
 #[test]
+fn a_run_in_blocks() {
+    let (mut plain, mut marked) = (Run::begin(4).unwrap(), Run::begin(4).unwrap());
+    let (mut words_given, mut marks_given) = (vec![], vec![]);
+    for rows in [3, 3, 2, 0] {
+        let (mut s0, mut s1, mut words, mut lengths, mut marks) = ([7; 13], [7; 13], [7; 16], [7; 4], [7; 4]);
+        assert_eq!(plain.list(3, &mut s0, &mut s1, &mut words, &mut lengths), Ok(rows as u64));
+        let written = (s0, s1, words, lengths);
+        assert_eq!(marked.list_marked(3, &mut s0, &mut s1, &mut words, &mut lengths, &mut marks), Ok(rows as u64));
+        assert_eq!(((s0, s1, words, lengths), &marked), (written, &plain));
+        let mut at = 0;
+        for row in 0..rows {
+            let end = at + usize::from(lengths[row]);
+            words_given.push(text(&words[at..end]));
+            assert_eq!(position(&s0[4 * row..][..4], &s1[4 * row..][..4], 1), Ok(words_given.len() as u64));
+            assert_eq!(kept(&s0[4 * row..][..4], &s1[4 * row..][..4], 1), Ok(marks[row] == 1));
+            at = end;
+        }
+        marks_given.extend_from_slice(&marks[..rows]);
+        // What lies behind the rows written is as it was.
+        let rest = [&s0[4 * rows..], &s1[4 * rows..], &words[at..], &lengths[rows..]].concat();
+        assert!(rest.iter().all(|x| *x == 7) && marks[rows..].iter().all(|x| *x == 7));
+    }
+    assert_eq!(words_given, ["UFWW", "UFJ0", "TWWB", "TWBW", "TBWW", "TBJ0", "TJ0B", "TJ1B"]);
+    assert_eq!((marks_given, plain.stage), (vec![1, 1, 0, 0, 0, 0, 0, 0], 2));
+}
+
+#[test]
+fn rows_of_a_block() {
+    let mut run = Run::begin(4).unwrap();
+    // No rows: the run is not moved. All that are left: it stands at the last diagram, and is finished with the next call.
+    assert_eq!((run.list(0, &mut [], &mut [], &mut [], &mut []), &run), (Ok(0), &Run::begin(4).unwrap()));
+    let (mut s0, mut s1, mut words, mut lengths) = ([0; 32], [0; 32], [0; 40], [0; 8]);
+    assert_eq!((run.list(8, &mut s0, &mut s1, &mut words, &mut lengths), run.stage), (Ok(8), 1));
+    assert_eq!(run.list(9, &mut s0, &mut s1, &mut words, &mut lengths), Err(Refusal::OutputShort));
+    assert_eq!((run.list(0, &mut [], &mut [], &mut [], &mut []), run.stage), (Ok(0), 1));
+    assert_eq!((run.list(1, &mut s0, &mut s1, &mut words, &mut lengths), run.stage), (Ok(0), 2));
+    assert_eq!(run.list_marked(u64::MAX, &mut [], &mut [], &mut [], &mut [], &mut []), Ok(0));
+}
+
+#[test]
 fn a_book_to_its_end() {
     let mut book = Book::blank();
     assert_eq!(book.report(), Err(Refusal::BookUnsound));

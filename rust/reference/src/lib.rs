@@ -19,7 +19,7 @@ pub use diagrams::{all_reached, check, invariants, Invariants};
 pub use isomorphism::{compare_rooted, compare_unrooted, Lent};
 pub use labelling::{kept, relabel, symmetries};
 pub use listing::{all_words, count, diagram_at, plain_walk, position};
-pub use runs::Run;
+pub use runs::{Block, BlockRooms, Run};
 pub use words::{letters, read_word, second_is_less};
 
 /// A diagram as it is written, with root 1, and its word.

@@ -1,4 +1,5 @@
 //! The run, as a place in the order: its word's position, and 1, is the next.
+use crate::labelling::kept;
 use crate::listing::{count, position_of, word_at, written};
 use crate::words::spelled;
 use crate::{short, Rooms, Written};
@@ -78,4 +79,75 @@ impl Run {
         self.go_to(&next.word);
         Ok(Some(next))
     }
+
+    /// So many steps, or as many as there are: the diagrams written. 34; a finished run's end; 9, where the lists are short.
+    fn steps(&mut self, rows: u64, short: bool) -> Result<Vec<Written>, u16> {
+        if !self.is_sound() {
+            return Err(34);
+        }
+        if self.stage == 2 {
+            return Ok(vec![]);
+        }
+        if short {
+            return Err(9);
+        }
+        let mut given = vec![];
+        for _ in 0..rows {
+            match self.step([50, 50, 51])? {
+                Some(next) => given.push(next),
+                None => break,
+            }
+        }
+        Ok(given)
+    }
+
+    /// Listing in blocks: 34; a finished run's end; 9.
+    pub fn list(&mut self, rows: u64, rooms: BlockRooms) -> Result<Block, u16> {
+        let short = short_block(self.size.into(), rows, rooms);
+        Ok(Block::of(&self.steps(rows, short)?))
+    }
+
+    /// The same with keep marks, for which so many places are lent.
+    pub fn list_marked(&mut self, rows: u64, rooms: BlockRooms, marks: usize) -> Result<Block, u16> {
+        let short = short_block(self.size.into(), rows, rooms) || (marks as u64) < rows;
+        let given = self.steps(rows, short)?;
+        let marks = given.iter().map(|next| kept(&next.s0, &next.s1, 1).map(u8::from)).collect::<Result<_, u16>>()?;
+        Ok(Block { marks, ..Block::of(&given) })
+    }
+}
+
+/// Diagrams as they are written one after another.
+#[derive(Clone, Debug, PartialEq, Eq)]
+pub struct Block {
+    /// The black lists.
+    pub s0: Vec<u16>,
+    /// The white lists.
+    pub s1: Vec<u16>,
+    /// The words.
+    pub words: Vec<u16>,
+    /// The lengths of the words.
+    pub lengths: Vec<u16>,
+    /// The keep marks, 1 or 0, where they are asked for.
+    pub marks: Vec<u8>,
+}
+
+/// The lengths of the lists lent for s0, s1, the words and their lengths.
+pub type BlockRooms = [usize; 4];
+
+impl Block {
+    fn of(given: &[Written]) -> Block {
+        let one_after_another = |list: fn(&Written) -> &[u16]| given.iter().flat_map(list).copied().collect();
+        Block {
+            s0: one_after_another(|next| &next.s0),
+            s1: one_after_another(|next| &next.s1),
+            words: one_after_another(|next| &next.word),
+            lengths: given.iter().map(|next| next.word.len() as u16).collect(),
+            marks: vec![],
+        }
+    }
+}
+
+/// Whether the rooms are short for so many diagrams of size n: they want n, n, n + 1 places and 1 for each.
+fn short_block(n: u128, rows: u64, rooms: BlockRooms) -> bool {
+    rooms.iter().zip([n, n, n + 1, 1]).any(|(room, each)| (*room as u128) < u128::from(rows) * each)
 }

@@ -60,6 +60,31 @@ fn a_run_gives_the_listing_and_ends() {
     }
 }
 
+#[test]
+fn blocks_give_the_listing_and_end() {
+    for n in 1..=8_usize {
+        let words = all_words(n);
+        let (mut run, mut marked) = (Run::begin(n as u64).unwrap(), Run::begin(n as u64).unwrap());
+        let (mut given, mut marks, rooms) = (vec![], vec![], [3 * n, 3 * n, 3 * n + 3, 3]);
+        while run.stage != 2 {
+            assert_eq!((run.list(3, [3 * n, 3 * n, 3 * n + 2, 3]), run.list(0, [0; 4]).unwrap().lengths), (Err(9), vec![]));
+            let block = run.list(3, rooms).unwrap();
+            assert_eq!(marked.list_marked(3, rooms, 2), Err(9));
+            let same = marked.list_marked(3, rooms, 3).unwrap();
+            marks.extend(same.marks.clone());
+            assert_eq!((Block { marks: vec![], ..same }, &marked), (block.clone(), &run));
+            given.extend(block.words);
+        }
+        assert_eq!(given, words.concat());
+        let kept_of = |word: &Vec<u16>| read_word(word, [n, n]).and_then(|(s0, s1)| kept(&s0, &s1, 1)).unwrap();
+        assert_eq!(marks, words.iter().map(|word| u8::from(kept_of(word))).collect::<Vec<_>>());
+        assert_eq!(run.list(u64::MAX, [0; 4]).unwrap().lengths, []);
+        assert_eq!(Run::begin(n as u64).unwrap().list(u64::MAX, [60; 4]), Err(9));
+        run.items[50] = 1;
+        assert_eq!((run.list(0, [0; 4]), run.list_marked(0, [0; 4], 0)), (Err(34), Err(34)));
+    }
+}
+
 /// Words compare as isomorphism does, over all pairs of a size; a symmetry is an isomorphism of the diagram with itself.
 #[test]
 fn equal_words_are_isomorphisms() {

@@ -1,5 +1,7 @@
 //! The census. The letters, the invariants and the keep mark of a line are each side's own; the rest of the line is written by the code that
-//! all sides share.
+//! all sides share. The library lists in blocks with keep marks, while the baseline of the same method goes by single steps and asks whether each
+//! diagram is kept; the row by steps has the library do the same.
+use crate::blocks;
 use crate::generator::{generate, kept_known};
 use crate::library::Numbers;
 use crate::lines::Page;
@@ -22,6 +24,25 @@ pub const SAME: Parts =
     Parts { step: same::run::step, letters: letters::letters, invariants: same::invariants::invariants, kept: same::labelling::kept };
 
 /// Returns how many diagrams are kept.
+pub fn by_blocks(size: usize, page: &mut Page) -> u64 {
+    let mut listed = 0;
+    let mut kept = 0;
+    let mut line = |s0: &[u16], s1: &[u16], word: &[u16], keep| {
+        listed += 1;
+        page.number(listed);
+        page.byte(b' ');
+        page.at += library::letters(word, &mut page.bytes[page.at..]).unwrap();
+        let numbers = library::invariants(s0, s1, 1).unwrap();
+        kept += keep as u64;
+        page.rest(s0, s1, &numbers, keep);
+        page.turn();
+    };
+    blocks::list(size, library::list_marked, |block, given| block.each(given, &mut line));
+    page.flush();
+    kept
+}
+
+/// The same by single steps.
 pub fn by_steps(parts: &Parts, size: usize, page: &mut Page) -> u64 {
     let mut run = Run { size: size as u16, stage: 0, length: 0, items: [0; 51] };
     let (mut s0, mut s1, mut word) = (vec![0; size], vec![0; size], vec![0; size + 1]);
@@ -65,12 +86,20 @@ pub fn by_generator(size: usize, page: &mut Page) -> u64 {
     kept
 }
 
-pub fn census() -> Row {
+fn row(name: &'static str, bar: Option<f64>, library: fn(&mut Page) -> u64) -> Row {
     let (mut a, mut b, mut c) = (Page::new(None), Page::new(None), Page::new(None));
     let sides: Vec<Work> = vec![
-        Box::new(move || by_steps(&LIBRARY, 20, &mut a)),
+        Box::new(move || library(&mut a)),
         Box::new(move || by_steps(&SAME, 20, &mut b)),
         Box::new(move || by_generator(20, &mut c)),
     ];
-    Row { name: "census line 20", calls: count_of(20), bar: 1.5, sides }
+    Row { name, calls: count_of(20), bar, sides }
+}
+
+pub fn census() -> Row {
+    row("census line 20", Some(1.5), |page| by_blocks(20, page))
+}
+
+pub fn census_by_steps() -> Row {
+    row("census line 20 by steps", None, |page| by_steps(&LIBRARY, 20, page))
 }

@@ -1,5 +1,6 @@
-//! Whole lists, beside Vidal's generator, whose lists are copied out as the library writes them. The library's side of a row is one function
-//! of the size, so that another way to list takes its place by its name alone.
+//! Whole lists, beside Vidal's generator, whose lists are copied out as the library writes them. The library lists in blocks; by single steps,
+//! which test the run anew each time, for information.
+use crate::blocks;
 use crate::generator::{generate, kept_known};
 use crate::library;
 use crate::table::count_of;
@@ -35,6 +36,12 @@ impl Outputs {
     }
 }
 
+pub fn by_blocks(size: usize) -> u64 {
+    let mut sum = 0;
+    blocks::list(size, library::list, |block, given| block.each(given, |s0, s1, word, _| sum += seen(s0, s1, word)));
+    sum
+}
+
 pub fn by_steps(size: usize) -> u64 {
     let mut run = library::begin(size as u64).unwrap();
     let mut out = Outputs::new(size);
@@ -58,6 +65,12 @@ pub fn by_generator(size: usize) -> u64 {
     sum
 }
 
+pub fn marked_by_blocks(size: usize) -> u64 {
+    let mut kept = 0;
+    blocks::list(size, library::list_marked, |block, given| kept += block.marks[..given].iter().map(|&mark| mark as u64).sum::<u64>());
+    kept
+}
+
 pub fn marked_by_steps(size: usize) -> u64 {
     let mut run = library::begin(size as u64).unwrap();
     let mut out = Outputs::new(size);
@@ -79,23 +92,39 @@ pub fn marked_by_generator(size: usize) -> u64 {
     kept
 }
 
-fn row(name: &'static str, size: usize, bar: f64, library: Lister, generator: Lister) -> Row {
+fn row(name: &'static str, size: usize, bar: Option<f64>, library: Lister, generator: Lister) -> Row {
     let sides: Vec<Work> = vec![Box::new(move || library(size)), Box::new(move || generator(size))];
     Row { name, calls: count_of(size), bar, sides }
 }
 
 pub fn list_20() -> Row {
-    row("whole list 20 by steps", 20, 2.0, by_steps, by_generator)
+    row("whole list 20", 20, Some(2.0), by_blocks, by_generator)
 }
 
 pub fn list_22() -> Row {
-    row("whole list 22 by steps", 22, 2.0, by_steps, by_generator)
+    row("whole list 22", 22, Some(2.0), by_blocks, by_generator)
 }
 
 pub fn marked_20() -> Row {
-    row("whole list 20 with keep marks", 20, 3.0, marked_by_steps, marked_by_generator)
+    row("whole list 20 with keep marks", 20, Some(3.0), marked_by_blocks, marked_by_generator)
 }
 
 pub fn marked_22() -> Row {
-    row("whole list 22 with keep marks", 22, 3.0, marked_by_steps, marked_by_generator)
+    row("whole list 22 with keep marks", 22, Some(3.0), marked_by_blocks, marked_by_generator)
+}
+
+pub fn list_20_by_steps() -> Row {
+    row("whole list 20 by steps", 20, None, by_steps, by_generator)
+}
+
+pub fn list_22_by_steps() -> Row {
+    row("whole list 22 by steps", 22, None, by_steps, by_generator)
+}
+
+pub fn marked_20_by_steps() -> Row {
+    row("whole list 20 marked, by steps", 20, None, marked_by_steps, marked_by_generator)
+}
+
+pub fn marked_22_by_steps() -> Row {
+    row("whole list 22 marked, by steps", 22, None, marked_by_steps, marked_by_generator)
 }

@@ -74,6 +74,24 @@ fn short_lists() {
     }
 }
 
+/// A block of two diagrams of four edges, each list in turn short by one; and numbers of rows whose products do not fit 64 bits.
+#[test]
+fn short_blocks() {
+    let full = [8, 8, 10, 2, 2];
+    let short = (0..5).map(|list| (2, std::array::from_fn(|i| full[i] - usize::from(i == list))));
+    for (rows, rooms) in short.chain([1 << 62, 1 << 63, u64::MAX].map(|rows| (rows, full))) {
+        let (mut lists, mut marks, mut out) = ([[MARK; 10]; 4], [7; 2], WIDE);
+        let mut run = Run::begin(4).unwrap();
+        let [s0, s1, words, lengths] = &mut lists;
+        let (s0, s1, words, lengths) = (&mut s0[..rooms[0]], &mut s1[..rooms[1]], &mut words[..rooms[2]], &mut lengths[..rooms[3]]);
+        assert_eq!(list_marked(&mut run, rows, [s0, s1, words, lengths], &mut marks[..rooms[4]], &mut out), 9);
+        if rooms[4] == 2 {
+            assert_eq!(list(&mut run, rows, [s0, s1, words, lengths], &mut out), 9);
+        }
+        assert_eq!((run, lists, marks, out), (Run::begin(4).unwrap(), [[MARK; 10]; 4], [7; 2], WIDE));
+    }
+}
+
 #[test]
 fn refused_words_and_sizes() {
     let (mut s0, mut s1, mut words, mut letters_out, mut out) = ([MARK; 2], [MARK; 2], [MARK; 1024], [7; 3], WIDE);
@@ -94,7 +112,12 @@ fn refused_runs() {
     assert_eq!((begin(0, &mut run), begin(51, &mut run)), (31, 31));
     let [s0, s1, word] = &mut lists;
     assert_eq!(step(&mut run, s0, s1, word, &mut out), 34);
-    assert_eq!((run, lists, out), (before, [[MARK; 60]; 3], WIDE));
+    let (mut lengths, mut marks) = ([MARK; 1], [7; 1]);
+    for rows in [0, 1, u64::MAX] {
+        assert_eq!(list(&mut run, rows, [s0, s1, word, &mut lengths], &mut out), 34);
+        assert_eq!(list_marked(&mut run, rows, [s0, s1, word, &mut lengths], &mut marks, &mut out), 34);
+    }
+    assert_eq!((run, lists, lengths, marks, out), (before, [[MARK; 60]; 3], [MARK; 1], [7; 1], WIDE));
 }
 
 #[test]
