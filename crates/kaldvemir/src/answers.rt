@@ -406,13 +406,7 @@ pub fn report_complete(a: Reporting, old: u64) -> u64
         Reporting::Progress {
             committed: _,
             complete,
-        } => {
-            if complete {
-                1
-            } else {
-                0
-            }
-        }
+        } => { if complete { 1 } else { 0 } }
         Reporting::Refused(_) => old,
     }
 }

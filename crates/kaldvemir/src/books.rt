@@ -1,10 +1,4 @@
 // The share book. It lies with the caller as 100 numbers.
-use cores::claim_core;
-use cores::commit_core;
-use cores::open_core;
-use cores::release_core;
-use cores::report_core;
-use cores::take_core;
 use crate::answers::claim_number;
 use crate::answers::claim_ticket;
 use crate::answers::commit_number;
@@ -17,6 +11,12 @@ use crate::answers::take_length;
 use crate::answers::take_number;
 use crate::answers::take_position;
 use crate::answers::take_share;
+use cores::claim_core;
+use cores::commit_core;
+use cores::open_core;
+use cores::release_core;
+use cores::report_core;
+use cores::take_core;
 use layout::books::held;
 use layout::books::put_back;
 ghost use mathlib.Core.Path.{_≡_};
@@ -114,7 +114,11 @@ pub extern "C" fn kaldvemir_release(book: &mut [u64; 100], tick: u64, ticket: u6
 }
 
 #[no_mangle]
-pub extern "C" fn kaldvemir_report(book: &[u64; 100], committed: &mut u64, complete: &mut u64) -> u16
+pub extern "C" fn kaldvemir_report(
+    book: &[u64; 100],
+    committed: &mut u64,
+    complete: &mut u64,
+) -> u16
     ensures { λ r. ⌜ (r ≡ answers.report-number (report-answer (book-of (now (book .entry)))))
         × (now (committed .exit) ≡ answers.report-committed (report-answer (book-of (now (book .entry)))) (now (committed .entry)))
         × (now (complete .exit) ≡ answers.report-complete (report-answer (book-of (now (book .entry)))) (now (complete .entry))) ⌝ }

@@ -81,7 +81,7 @@ pub extern "C" fn kaldvemir_list(
 ) -> u16
     ensures { λ r. ⌜ ((a : Listing) × (next : Run)
         × Lists (run-of (now (run .entry))) rows (now (s0 .entry)) (now (s1 .entry)) (now (words .entry)) (now (lengths .entry))
-            next (now (s0 .exit)) (now (s1 .exit)) (now (words .exit)) (now (lengths .exit)) a
+        next (now (s0 .exit)) (now (s1 .exit)) (now (words .exit)) (now (lengths .exit)) a
         × (r ≡ answers.list-number a)
         × (now (given .exit) ≡ answers.list-rows a (now (given .entry)))
         × (now (run .exit) ≡ run-numbers next)) ⌝ }
@@ -113,7 +113,7 @@ pub extern "C" fn kaldvemir_list_marked(
 ) -> u16
     ensures { λ r. ⌜ ((a : Listing) × (next : Run)
         × ListsMarked (run-of (now (run .entry))) rows (now (s0 .entry)) (now (s1 .entry)) (now (words .entry)) (now (lengths .entry)) (now (marks .entry))
-            next (now (s0 .exit)) (now (s1 .exit)) (now (words .exit)) (now (lengths .exit)) (now (marks .exit)) a
+        next (now (s0 .exit)) (now (s1 .exit)) (now (words .exit)) (now (lengths .exit)) (now (marks .exit)) a
         × (r ≡ answers.list-number a)
         × (now (given .exit) ≡ answers.list-rows a (now (given .entry)))
         × (now (run .exit) ≡ run-numbers next)) ⌝ }

@@ -41,7 +41,6 @@ book-row (x0 ∷ x1 ∷ x2 ∷ x3 ∷ m) nx tk ex a b c d hl hn ht he =
   where
     none : drop 32 (drop 32 (drop 32 m)) ≡ []
     none = drop-of-length-le (drop 32 (drop 32 m)) {i = 32} (rw (length-drop 32 (drop 32 m), length-drop 32 m) (omega arith))
-
 book-row [] nx tk ex a b c d hl hn ht he = absurd (omega arith)
 book-row (x0 ∷ []) nx tk ex a b c d hl hn ht he = absurd (omega arith)
 book-row (x0 ∷ x1 ∷ []) nx tk ex a b c d hl hn ht he = absurd (omega arith)

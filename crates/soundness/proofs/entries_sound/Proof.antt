@@ -65,8 +65,7 @@ entry-sound-requires c κs =
     let o = c .before .before .before .before in
     let a = o .before .before .before in
     let v = o .before .before .loop .inv in
-    let l = o .before .loop-test .taken in
-    (
+    let l = o .before .loop-test .taken in (
       end-small (a .args .t1 .shares) (o .before .before .loop .i) (o .before .before .loop .before) (o .before .before .loop .rest) (a .args .total) (v .3) (a .pre .2 .0) (a .pre .1) (v .0),
       end-small (a .args .t1 .shares) (o .before .before .loop .i + 1) (o .onward .result .last) (o .onward .result .rest) (a .args .total) (further o) (a .pre .2 .0) (a .pre .1) (omega (arith, l)),
       l,
@@ -88,8 +87,7 @@ loop-less c = omega arith
 loop-again : tie.Need-loop-again Inv-loop μ-loop
 loop-again c =
     let o = c .before .before .before .before .before .before in
-    let a = o .before .before .before in
-    (
+    let a = o .before .before .before in (
       omega (arith, o .before .loop-test .taken),
       rw (add-one, sym (c .before .entry-sound .ensures (a .args .t1 .size) (starts o) (stops o)) ∙ not-false _ (c .if1 .left)) (o .before .before .loop .inv .1),
       o .onward .ensures .0,

@@ -37,8 +37,7 @@ claim-number-requires c κs = search needs
 -- src/books.rt:102:1
 returns : tie.Need-returns
 returns c =
-    let k = rw (c .before .before .before .before .before .before .held .ensures .0) at (c .before .before .before .before .before .claim-core .ensures) in
-    (
+    let k = rw (c .before .before .before .before .before .before .held .ensures .0) at (c .before .before .before .before .before .claim-core .ensures) in (
       c .claim-number .ensures ∙ ap answers.claim-number (k .0),
       c .before .claim-ticket .ensures ∙ ap (λ (a : Claiming). answers.claim-ticket a (now (c .before .before .before .before .before .before .before .before .args .ticket))) (k .0),
       c .before .before .before .put-back .ensures ∙ ap book-numbers (k .1),

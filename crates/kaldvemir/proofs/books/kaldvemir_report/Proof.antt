@@ -36,8 +36,7 @@ report-number-requires c κs = search needs
 -- src/books.rt:177:1
 returns : tie.Need-returns
 returns c =
-    let k = rw (c .before .before .before .before .before .before .held .ensures .0) at (c .before .before .before .before .before .report-core .ensures) in
-    (
+    let k = rw (c .before .before .before .before .before .before .held .ensures .0) at (c .before .before .before .before .before .report-core .ensures) in (
       c .report-number .ensures ∙ ap answers.report-number k,
       c .before .before .before .report-committed .ensures ∙ ap (λ (a : Reporting). answers.report-committed a (now (c .before .before .before .before .before .before .before .before .args .committed))) k,
       c .before .report-complete .ensures ∙ ap (λ (a : Reporting). answers.report-complete a (now (c .before .before .before .before .before .before .before .before .args .complete))) k,
