@@ -26,21 +26,27 @@ fn onward(s0: &[u16], s1: &[u16], i: usize) -> usize {
     s0[s1[i] as usize - 1] as usize - 1
 }
 
+/// Goes round the cycle of an edge, and returns its length.
+#[inline(always)]
+fn round(s0: &[u16], s1: &[u16], first: usize, mut visit: impl FnMut(usize)) -> u16 {
+    let (mut i, mut length) = (first, 0);
+    loop {
+        visit(i);
+        i = onward(s0, s1, i);
+        length += 1;
+        if i == first {
+            return length;
+        }
+    }
+}
+
 /// The number of cycles of i to s0(s1(i)) and the longest; the edges not yet walked as a bit set.
 fn cycles_small(s0: &[u16], s1: &[u16]) -> (u16, u16) {
     let mut left = u64::MAX >> (SMALL - s0.len());
     let (mut count, mut longest) = (0, 0);
     while left != 0 {
         let first = left.trailing_zeros() as usize;
-        let (mut i, mut length) = (first, 0);
-        loop {
-            left &= !(1 << (i & 63));
-            i = onward(s0, s1, i);
-            length += 1;
-            if i == first {
-                break;
-            }
-        }
+        let length = round(s0, s1, first, |i| left &= !(1 << (i & 63)));
         count += 1;
         longest = longest.max(length);
     }
@@ -54,15 +60,7 @@ fn cycles(s0: &[u16], s1: &[u16]) -> (u16, u16) {
         if seen[first] {
             continue;
         }
-        let (mut i, mut length) = (first, 0);
-        loop {
-            seen[i] = true;
-            i = onward(s0, s1, i);
-            length += 1;
-            if i == first {
-                break;
-            }
-        }
+        let length = round(s0, s1, first, |i| seen[i] = true);
         count += 1;
         longest = longest.max(length);
     }
