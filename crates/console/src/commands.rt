@@ -1,13 +1,13 @@
 // Which command a line is. Each function tries the names of its group, and hands what it does not know on to the next.
-use crate::answers::error;
-use crate::books;
-use crate::fields;
-use crate::given;
-use crate::listing;
-use crate::runs;
-use crate::spelling;
-use crate::state::Done;
-use crate::state::State;
+use console_lines::answers::error;
+use console_state::books;
+use console_state::fields;
+use console_diagrams::given;
+use console_diagrams::listing;
+use console_state::runs;
+use console_diagrams::spelling;
+use console_state::state::Done;
+use console_state::state::State;
 use lines::Words;
 use lines::is;
 use lines::split;

@@ -27,24 +27,16 @@
 //   book                                           SIZE K LATEST ISSUED NEXT TICKET EXPIRY, three lists of 32; all zeros before any open
 //   set size V, shares V, latest V, issued V       ok; writes a field of the book
 //   set next J V, ticket J V, expiry J V           ok; writes share J's, 1 to 32
-mod answers;
-mod arguments;
-mod books;
 mod commands;
-mod fields;
-mod given;
-mod listing;
-mod runs;
-mod spelling;
-mod state;
 
-use answers::error;
 use commands::command;
+use console_lines::answers::error;
+use console_state::state;
+use console_state::state::Done;
+use console_state::state::State;
 use libc::STDIN_FILENO;
 use libc::STDOUT_FILENO;
 use lines::put_byte;
-use state::Done;
-use state::State;
 ghost use Prim.Native.Nat.{_≤_};
 ghost use lib.ListN.{length};
 

@@ -1,11 +1,11 @@
 // The operations on the share book, which they alter. A refused one hands back the book as it was.
-use crate::answers::error;
-use crate::answers::ok;
-use crate::answers::put_diagram;
-use crate::answers::put_next;
-use crate::answers::refused;
-use crate::arguments::MAX_ENTRIES;
-use crate::arguments::three_rooms;
+use console_lines::answers::error;
+use console_lines::answers::ok;
+use console_lines::answers::put_diagram;
+use console_lines::answers::put_next;
+use console_lines::answers::refused;
+use console_lines::arguments::MAX_ENTRIES;
+use console_lines::arguments::three_rooms;
 use crate::state::Done;
 use crate::state::State;
 use crate::state::with_book;

@@ -1,12 +1,12 @@
 // The commands on a diagram that is given.
-use crate::answers::error;
-use crate::answers::ok;
-use crate::answers::put_diagram;
-use crate::answers::put_next;
-use crate::answers::refused;
-use crate::arguments::MAX_ENTRIES;
-use crate::arguments::diagram;
-use crate::arguments::three_rooms;
+use console_lines::answers::error;
+use console_lines::answers::ok;
+use console_lines::answers::put_diagram;
+use console_lines::answers::put_next;
+use console_lines::answers::refused;
+use console_lines::arguments::MAX_ENTRIES;
+use console_lines::arguments::diagram;
+use console_lines::arguments::three_rooms;
 use canonical::Comparison;
 use canonical::KeepMark;
 use canonical::Relabelling;

@@ -1,9 +1,9 @@
 // The commands on words.
-use crate::answers::error;
-use crate::answers::put_lists;
-use crate::answers::refused;
-use crate::arguments::MAX_ENTRIES;
-use crate::arguments::two_rooms;
+use console_lines::answers::error;
+use console_lines::answers::put_lists;
+use console_lines::answers::refused;
+use console_lines::arguments::MAX_ENTRIES;
+use console_lines::arguments::two_rooms;
 use lines::Words;
 use lines::list;
 use lines::put_byte;

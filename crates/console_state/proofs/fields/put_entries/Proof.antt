@@ -3,8 +3,8 @@ use borrow.Author.Needs.{needs}
 use Prim.Native.Nat.{_-_, _≤_}
 use mathlib.Core.Path.{_≡_}
 use lib.ListN.{length}
-use Rattle.console.proofs.fields.put_entries.Statement.{statement}
-use Rattle.console.proofs.fields.put_entries.Tie as tie
+use Rattle.console_state.proofs.fields.put_entries.Statement.{statement}
+use Rattle.console_state.proofs.fields.put_entries.Tie as tie
 
 abbrev Inv-loop : tie.InvT-loop
 Inv-loop out₀ at list next₀ i₀ out next i = (i ≤ 32) × (length out ≡ length out₀)

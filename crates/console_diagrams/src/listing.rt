@@ -1,12 +1,12 @@
 // The commands on the diagrams of a size, in the order of their words.
-use crate::answers::error;
-use crate::answers::put_diagram;
-use crate::answers::put_first;
-use crate::answers::refused;
-use crate::arguments::MAX_ENTRIES;
-use crate::arguments::diagram;
-use crate::arguments::one_room;
-use crate::arguments::three_rooms;
+use console_lines::answers::error;
+use console_lines::answers::put_diagram;
+use console_lines::answers::put_first;
+use console_lines::answers::refused;
+use console_lines::arguments::MAX_ENTRIES;
+use console_lines::arguments::diagram;
+use console_lines::arguments::one_room;
+use console_lines::arguments::three_rooms;
 use lines::Words;
 use lines::number;
 use lines::put_byte;

@@ -1,0 +1,5 @@
+// The commands of the program console that alter what lasts from line to line: the run, and the share book.
+pub mod books;
+pub mod fields;
+pub mod runs;
+pub mod state;
