@@ -4,7 +4,7 @@ use crate::blocks;
 use crate::generator::{generate, kept_known};
 use crate::lines::Page;
 use crate::random::{Diagram, Random};
-use crate::raw::{Book, Run};
+use kaldvemir::{Book, Run};
 use crate::rows::{books::opened, census, given::words, listing, whole};
 use crate::table::count_of;
 use crate::{letters, library, same, tuned};
@@ -150,7 +150,7 @@ fn one_step(random: &mut Random, start: &Run, out: usize) -> Run {
     let out = outputs(random, out);
     let by = |step: Step| {
         move |o: &mut Outputs| {
-            let mut run = *start;
+            let mut run = start.clone();
             (step(&mut run, &mut o.s0, &mut o.s1, &mut o.word), run)
         }
     };
@@ -198,7 +198,7 @@ fn spoil(random: &mut Random, book: &mut Book) {
 /// The calls of one side.
 struct Calls {
     claim: fn(&mut Book, u64, u64, u64) -> Result<u64, u16>,
-    take: fn(&mut Book, u64, u64, &mut [u16], &mut [u16], &mut [u16]) -> Result<library::Taken, u16>,
+    take: fn(&mut Book, u64, u64, &mut [u16], &mut [u16], &mut [u16]) -> Result<kaldvemir::Taken, u16>,
     commit: fn(&mut Book, u64, u64, u64) -> Result<(), u16>,
 }
 
@@ -220,7 +220,7 @@ fn one_call(random: &mut Random, book: &Book, tick: u64) -> Book {
     let call = random.below(3);
     let by = |calls: Calls| {
         move |o: &mut Outputs| {
-            let mut b = *book;
+            let mut b = book.clone();
             let answer = match call {
                 0 => (calls.claim)(&mut b, tick, share, length).map(|ticket| [ticket, 0, 0]),
                 1 => (calls.take)(&mut b, tick, ticket, &mut o.s0, &mut o.s1, &mut o.word).map(|t| [t.share, t.position, t.length as u64]),
@@ -244,7 +244,7 @@ fn books(random: &mut Random) {
             tick += random.below(3);
             let asked = if random.below(20) == 0 { tick.saturating_sub(2) } else { tick };
             book = one_call(random, &book, asked);
-            let mut spoilt = book;
+            let mut spoilt = book.clone();
             spoil(random, &mut spoilt);
             one_call(random, &spoilt, tick);
         }

@@ -1,6 +1,6 @@
 //! The list of a size from the library in blocks.
 use crate::library;
-use crate::raw::Run;
+use kaldvemir::Run;
 
 /// How many diagrams a block holds.
 const ROWS: usize = 256;

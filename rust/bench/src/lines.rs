@@ -1,6 +1,6 @@
 //! A line of the census from its parts. All sides use this, so that the row of the census compares how the parts are found.
 use crate::letters::put_decimal;
-use crate::library::Numbers;
+use kaldvemir::Invariants;
 
 /// No line is longer.
 pub const LINE: usize = 1024;
@@ -40,7 +40,7 @@ impl Page {
 
     /// What follows the letters of the word: the lists, the invariants and the keep mark.
     #[inline(always)]
-    pub fn rest(&mut self, s0: &[u16], s1: &[u16], x: &Numbers, kept: bool) {
+    pub fn rest(&mut self, s0: &[u16], s1: &[u16], x: &Invariants, kept: bool) {
         self.byte(b' ');
         self.list(s0);
         self.byte(b' ');

@@ -12,7 +12,6 @@ mod letters;
 mod library;
 mod lines;
 mod random;
-mod raw;
 mod rows;
 mod same;
 mod table;

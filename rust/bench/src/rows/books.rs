@@ -1,7 +1,7 @@
 //! The share book of size 24. In each row a ticket stands at every share, so that the test for equal tickets has all its work.
 use super::row;
-use crate::library::Taken;
-use crate::raw::Book;
+use kaldvemir::Taken;
+use kaldvemir::Book;
 use crate::timing::Row;
 use crate::{library, same, tuned};
 use std::hint::black_box;
@@ -13,7 +13,7 @@ type Take = fn(&mut Book, u64, u64, &mut [u16], &mut [u16], &mut [u16]) -> Resul
 type Commit = fn(&mut Book, u64, u64, u64) -> Result<(), u16>;
 
 pub fn opened(size: u64, shares: u64) -> Book {
-    let mut book = Book { size: 0, shares: 0, latest: 0, issued: 0, next: [0; 32], ticket: [0; 32], expiry: [0; 32] };
+    let mut book = Book::blank();
     library::open(&mut book, size, shares).unwrap();
     book
 }
@@ -31,9 +31,9 @@ fn claimed(shares: u64) -> Book {
 fn claim(name: &'static str, shares: u64) -> Row {
     let start = opened(24, shares);
     let work = |f: Claim| {
-        let start = start;
+        let start = start.clone();
         move || {
-            let mut book = start;
+            let mut book = start.clone();
             for tick in 0..CALLS {
                 black_box(f(black_box(&mut book), tick, tick % shares + 1, shares).unwrap());
             }
@@ -46,10 +46,10 @@ fn claim(name: &'static str, shares: u64) -> Row {
 fn take(name: &'static str, shares: u64) -> Row {
     let start = claimed(shares);
     let work = |f: Take| {
-        let start = start;
+        let start = start.clone();
         let (mut s0, mut s1, mut word) = ([0; 24], [0; 24], [0; 25]);
         move || {
-            let mut book = start;
+            let mut book = start.clone();
             let mut sum = 0;
             for i in 0..CALLS {
                 let taken = f(black_box(&mut book), 2 + i, i % shares + 1, &mut s0, &mut s1, &mut word).unwrap();
@@ -64,9 +64,9 @@ fn take(name: &'static str, shares: u64) -> Row {
 fn commit(name: &'static str, shares: u64) -> Row {
     let start = claimed(shares);
     let work = |f: Commit| {
-        let start = start;
+        let start = start.clone();
         move || {
-            let mut book = start;
+            let mut book = start.clone();
             for i in 0..CALLS {
                 let at = (i % shares) as usize;
                 let position = book.next[at];

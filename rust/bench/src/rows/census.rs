@@ -3,9 +3,9 @@
 //! diagram is kept; the row by steps has the library do the same.
 use crate::blocks;
 use crate::generator::{generate, kept_known};
-use crate::library::Numbers;
+use kaldvemir::Invariants;
 use crate::lines::Page;
-use crate::raw::Run;
+use kaldvemir::Run;
 use crate::table::count_of;
 use crate::timing::{Row, Work};
 use crate::{letters, library, same, tuned};
@@ -14,7 +14,7 @@ use crate::{letters, library, same, tuned};
 pub struct Parts {
     step: fn(&mut Run, &mut [u16], &mut [u16], &mut [u16]) -> Result<usize, u16>,
     letters: fn(&[u16], &mut [u8]) -> Result<usize, u16>,
-    invariants: fn(&[u16], &[u16], u64) -> Result<Numbers, u16>,
+    invariants: fn(&[u16], &[u16], u64) -> Result<Invariants, u16>,
     kept: fn(&[u16], &[u16], u64) -> Result<bool, u16>,
 }
 

@@ -1,7 +1,7 @@
 //! Listed diagrams: positions, keep marks and runs.
 use super::{given, row};
 use crate::random::{Diagram, Random};
-use crate::raw::Run;
+use kaldvemir::Run;
 use crate::table::count_of;
 use crate::timing::Row;
 use crate::{library, same, tuned};
@@ -81,9 +81,10 @@ pub fn run_at(size: usize, position: u64) -> Run {
 pub fn steps() -> Row {
     let start = run_at(25, 2_000_000);
     let work = |f: Step| {
+        let start = start.clone();
         let (mut s0, mut s1, mut word) = ([0; 25], [0; 25], [0; 26]);
         move || {
-            let mut run = start;
+            let mut run = start.clone();
             let mut sum = 0;
             for _ in 0..200_000 {
                 sum += f(&mut run, &mut s0, &mut s1, &mut word).unwrap() + black_box(&s1)[12] as usize;

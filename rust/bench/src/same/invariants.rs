@@ -1,14 +1,14 @@
 //! The invariants of a diagram.
 use super::check::{check, next};
-use crate::library::Numbers;
+use kaldvemir::Invariants;
 use crate::table::MAX_SIZE;
 
-pub fn invariants(s0: &[u16], s1: &[u16], root: u64) -> Result<Numbers, u16> {
+pub fn invariants(s0: &[u16], s1: &[u16], root: u64) -> Result<Invariants, u16> {
     check(s0, s1, root)?;
     let n = s0.len() as i32;
     let (e2, e3) = (fixed(s1), fixed(s0));
     let (c, level) = cycles(s0, s1);
-    Ok(Numbers { e2, e3, c, t: 12 + n - 3 * e2 as i32 - 4 * e3 as i32 - 6 * c as i32, level })
+    Ok(Invariants { e2, e3, c, t: 12 + n - 3 * e2 as i32 - 4 * e3 as i32 - 6 * c as i32, level })
 }
 
 fn fixed(s: &[u16]) -> u16 {

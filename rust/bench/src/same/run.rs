@@ -1,6 +1,6 @@
 //! A run's step: the run is tested, the word that follows found from the heights alone, in the run's own list, and its diagram written.
 use super::writing::write_diagram;
-use crate::raw::Run;
+use kaldvemir::Run;
 use crate::table::{ends, listed};
 
 /// The length of the word written, 0 at the end.

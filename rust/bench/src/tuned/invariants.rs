@@ -1,20 +1,20 @@
 //! The invariants of a diagram, and of one that is known to be one.
 use super::check::check;
 use super::SMALL;
-use crate::library::Numbers;
+use kaldvemir::Invariants;
 use crate::table::MAX_SIZE;
 
-pub fn invariants(s0: &[u16], s1: &[u16], root: u64) -> Result<Numbers, u16> {
+pub fn invariants(s0: &[u16], s1: &[u16], root: u64) -> Result<Invariants, u16> {
     check(s0, s1, root)?;
     Ok(measure(s0, s1))
 }
 
-pub fn measure(s0: &[u16], s1: &[u16]) -> Numbers {
+pub fn measure(s0: &[u16], s1: &[u16]) -> Invariants {
     let n = s0.len();
     let (c, level) = if n <= SMALL { cycles_small(s0, s1) } else { cycles(s0, s1) };
     let e2 = fixed(s1);
     let e3 = fixed(s0);
-    Numbers { e2, e3, c, t: 12 + n as i32 - 3 * e2 as i32 - 4 * e3 as i32 - 6 * c as i32, level }
+    Invariants { e2, e3, c, t: 12 + n as i32 - 3 * e2 as i32 - 4 * e3 as i32 - 6 * c as i32, level }
 }
 
 fn fixed(s: &[u16]) -> u16 {

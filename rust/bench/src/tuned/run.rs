@@ -1,6 +1,6 @@
 //! A run's step: the word that follows, from the heights alone, and its diagram.
 use super::spelling::spell;
-use crate::raw::Run;
+use kaldvemir::Run;
 use crate::table::{ends, listed};
 
 /// The length of the word written, 0 at the end.
