@@ -2,9 +2,9 @@
 // invariants and keep mark, and a last line with the numbers listed and kept. Standard input names the size: decimal digits without a
 // leading zero, then a newline, and nothing else. Any other input, and a size outside 1..50, prints `refused 31`.
 //
-// The diagrams come one after another from a run, and the lines go out in blocks, so that the memory needed does not grow with the size.
+// The diagrams come from a run in blocks, with their keep marks, and the lines of a block go out together, so that the memory needed does
+// not grow with the size.
 ghost use Prim.Native.Nat.{_≤_};
-use canonical::KeepMark;
 use invariants::Measured;
 use invariants::Numbers;
 use libc::STDIN_FILENO;
@@ -14,13 +14,15 @@ use lines::put_list;
 use lines::put_number;
 use lines::put_signed;
 use lines::put_text;
+use listing::Listing;
+use listing::list_marked;
 use positions::Total;
 use running::Run;
-use running::Stepping;
 use words::Lettered;
 
-// No line is longer: 15 digits, at most 51 items of three letters, two lists of 50 entries, five numbers and the marks between.
-const LINE: usize = 1024;
+// Diagrams in a block. No line is longer than 1,024 bytes (15 digits, at most 51 items of three letters, two lists of 50 entries, five numbers
+// and the marks between), so that a block's lines fit the 65,536 bytes that are written at once.
+const ROWS: usize = 48;
 
 // More than any size has: one more still fits 64 bits.
 const MANY: u64 = 1000000000000000000;
@@ -130,17 +132,7 @@ fn put_row(
     put_invariants(out, next, s0, s1)
 }
 
-// Whether the diagram with root 1 is kept.
-fn is_kept(s0: &[u16], s1: &[u16]) -> bool {
-    let mark = canonical::kept(s0, s1, 1);
-    match mark {
-        KeepMark::Yes => true,
-        KeepMark::No => false,
-        KeepMark::Refused(_) => false,
-    }
-}
-
-// Where a census stands: the run, how many diagrams have been listed and how many of them are kept, and how full the block is.
+// Where a census stands: the run, how many diagrams have been listed and how many of them are kept, and how full the page is.
 struct Standing {
     run: Run,
     listed: u64,
@@ -148,100 +140,109 @@ struct Standing {
     at: usize,
 }
 
-// The line of a diagram: the run is at it, and it is the next to be listed.
-fn put_line(
-    c: Standing,
-    run: Run,
-    word: &[u16],
-    s0: &[u16],
-    s1: &[u16],
-    out: &mut [u8],
-) -> Standing {
+// The line of the next diagram.
+fn line(c: Standing, kept: bool, word: &[u16], s0: &[u16], s1: &[u16], out: &mut [u8]) -> Standing {
     if MANY < c.listed {
         return c;
     }
     if MANY < c.kept {
         return c;
     }
-    let listed = c.listed + 1;
-    let at = put_row(out, c.at, listed, word, s0, s1);
-    if is_kept(s0, s1) {
-        let kept = c.kept + 1;
-        let at = put_text(out, at, b" K\n");
-        return Standing {
-            run,
-            listed,
-            kept,
-            at,
-        };
+    let mut next = c;
+    next.listed = c.listed + 1;
+    let at = put_row(out, c.at, next.listed, word, s0, s1);
+    if kept {
+        next.kept = c.kept + 1;
+        next.at = put_text(out, at, b" K\n");
+        return next;
     }
-    let kept = c.kept;
-    let at = put_text(out, at, b" -\n");
-    Standing {
-        run,
-        listed,
-        kept,
-        at,
-    }
+    next.at = put_text(out, at, b" -\n");
+    next
 }
 
-// The line of the next diagram. Where the run gives none the census stays as it is.
-fn line(
-    c: Standing,
-    n: usize,
-    s0: &mut [u16],
-    s1: &mut [u16],
-    word: &mut [u16],
-    out: &mut [u8],
-) -> Standing {
-    let run = c.run;
-    let stepped = running::step(run, s0, s1, word);
-    let answer = stepped.answer;
-    let Stepping::Length(m) = answer else {
-        return c;
-    };
-    let k = lists::wide(m);
-    if s0.len() < n {
-        return c;
+// So many entries of a list from a place on; none where the list has not so many there.
+fn part(list: &[u16], from: usize, count: usize) -> &[u16] {
+    if list.len() < from {
+        return &list[0..0];
     }
-    if s1.len() < n {
-        return c;
+    if list.len() - from < count {
+        return &list[0..0];
     }
-    if word.len() < k {
-        return c;
-    }
-    let next = stepped.run;
-    put_line(c, next, &word[0..k], &s0[0..n], &s1[0..n], out)
+    &list[from..from + count]
 }
 
-// Lines, until the block is nearly full or total diagrams are listed.
-fn block(
+// The lines of the diagrams of a block.
+fn put_rows(
     c: Standing,
     n: usize,
-    total: u64,
-    s0: &mut [u16],
-    s1: &mut [u16],
-    word: &mut [u16],
+    rows: usize,
+    s0: &[u16],
+    s1: &[u16],
+    words: &[u16],
+    lengths: &[u16],
+    marks: &[u8],
     out: &mut [u8],
 ) -> Standing {
+    if lengths.len() < rows {
+        return c;
+    }
+    if marks.len() < rows {
+        return c;
+    }
     let mut now = c;
-    while now.listed < total {
-        if out.len() < LINE {
-            return now;
-        }
-        if out.len() - LINE < now.at {
-            return now;
-        }
-        let next = line(now, n, s0, s1, word, out);
-        if next.listed <= now.listed {
-            return now;
-        }
-        now = next;
+    let mut first: usize = 0;
+    let mut place: usize = 0;
+    let mut i: usize = 0;
+    while i < rows {
+        let m = lists::wide(lengths[i]);
+        let kept = marks[i] == 1;
+        i += 1;
+        now = line(
+            now,
+            kept,
+            part(words, place, m),
+            part(s0, first, n),
+            part(s1, first, n),
+            out,
+        );
+        first = forward(first, n, s0.len());
+        place = forward(place, m, words.len());
     }
     now
 }
 
-// Writes the block out; false where standard output takes no more.
+// The next diagrams of the run, and their lines. Where the run gives none the census stays as it is.
+fn block(c: Standing, n: usize, out: &mut [u8]) -> Standing {
+    let mut s0 = [0u16; 50 * ROWS];
+    let mut s1 = [0u16; 50 * ROWS];
+    let mut words = [0u16; 51 * ROWS];
+    let mut lengths = [0u16; ROWS];
+    let mut marks = [0u8; ROWS];
+    let run = c.run;
+    let listed = list_marked(
+        run,
+        ROWS as u64,
+        &mut s0,
+        &mut s1,
+        &mut words,
+        &mut lengths,
+        &mut marks,
+    );
+    let answer = listed.answer;
+    let Listing::Rows(k) = answer else {
+        return c;
+    };
+    let run = listed.run;
+    let next = Standing {
+        run,
+        listed: c.listed,
+        kept: c.kept,
+        at: c.at,
+    };
+    put_rows(next, n, k as usize, &s0, &s1, &words, &lengths, &marks, out)
+}
+
+// Writes the page out; false where standard output takes no more.
 fn flush(out: &[u8], at: usize) -> bool {
     if out.len() < at {
         return false;
@@ -263,15 +264,7 @@ fn put_totals(out: &mut [u8], at: usize, listed: u64, kept: u64) -> usize {
 }
 
 // All lines of a size of total diagrams, a block at a time. It stops where standard output closes.
-fn print_census(
-    run: Run,
-    size: u64,
-    total: u64,
-    s0: &mut [u16],
-    s1: &mut [u16],
-    word: &mut [u16],
-    out: &mut [u8],
-) {
+fn print_census(run: Run, size: u64, total: u64, out: &mut [u8]) {
     let at = put_header(out, size);
     let mut c = Standing {
         run,
@@ -280,7 +273,7 @@ fn print_census(
         at,
     };
     while c.listed < total {
-        let next = block(c, size as usize, total, s0, s1, word, out);
+        let mut next = block(c, size as usize, out);
         if next.listed <= c.listed {
             return;
         }
@@ -288,16 +281,9 @@ fn print_census(
             if !flush(out, next.at) {
                 return;
             }
-            let run = next.run;
-            c = Standing {
-                run,
-                listed: next.listed,
-                kept: next.kept,
-                at: 0,
-            };
-        } else {
-            c = next;
+            next.at = 0;
         }
+        c = next;
     }
     let at = put_totals(out, c.at, c.listed, c.kept);
     flush(out, at);
@@ -321,10 +307,7 @@ fn main() {
         Total::Number(t) => {
             let begun = running::begin(size);
             let run = begun.run;
-            let mut s0 = [0u16; 50];
-            let mut s1 = [0u16; 50];
-            let mut word = [0u16; 51];
-            print_census(run, size, t, &mut s0, &mut s1, &mut word, &mut out);
+            print_census(run, size, t, &mut out);
         }
     }
 }

@@ -1,11 +1,11 @@
 // Which command a line is. Each function tries the names of its group, and hands what it does not know on to the next.
+use console_diagrams::given;
+use console_diagrams::listing;
+use console_diagrams::spelling;
 use console_lines::answers::error;
 use console_state::books;
 use console_state::fields;
-use console_diagrams::given;
-use console_diagrams::listing;
 use console_state::runs;
-use console_diagrams::spelling;
 use console_state::state::Done;
 use console_state::state::State;
 use lines::Words;

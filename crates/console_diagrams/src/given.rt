@@ -1,4 +1,8 @@
 // The commands on a diagram that is given.
+use canonical::Comparison;
+use canonical::KeepMark;
+use canonical::Relabelling;
+use canonical::Symmetry;
 use console_lines::answers::error;
 use console_lines::answers::ok;
 use console_lines::answers::put_diagram;
@@ -7,10 +11,6 @@ use console_lines::answers::refused;
 use console_lines::arguments::MAX_ENTRIES;
 use console_lines::arguments::diagram;
 use console_lines::arguments::three_rooms;
-use canonical::Comparison;
-use canonical::KeepMark;
-use canonical::Relabelling;
-use canonical::Symmetry;
 use diagrams::Verdict;
 use invariants::Measured;
 use invariants::Numbers;

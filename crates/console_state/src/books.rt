@@ -1,11 +1,4 @@
 // The operations on the share book, which they alter. A refused one hands back the book as it was.
-use console_lines::answers::error;
-use console_lines::answers::ok;
-use console_lines::answers::put_diagram;
-use console_lines::answers::put_next;
-use console_lines::answers::refused;
-use console_lines::arguments::MAX_ENTRIES;
-use console_lines::arguments::three_rooms;
 use crate::state::Done;
 use crate::state::State;
 use crate::state::with_book;
@@ -16,6 +9,13 @@ use book::Opening;
 use book::Releasing;
 use book::Reporting;
 use book::Taking;
+use console_lines::answers::error;
+use console_lines::answers::ok;
+use console_lines::answers::put_diagram;
+use console_lines::answers::put_next;
+use console_lines::answers::refused;
+use console_lines::arguments::MAX_ENTRIES;
+use console_lines::arguments::three_rooms;
 use cores::claim_core;
 use cores::commit_core;
 use cores::open_core;

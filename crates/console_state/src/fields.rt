@@ -1,11 +1,11 @@
 // The commands that print the share book and write single fields of it, so that a book that no operation leaves can be tried too.
-use console_lines::answers::error;
-use console_lines::answers::ok;
-use console_lines::answers::put_next;
 use crate::state::Done;
 use crate::state::State;
 use crate::state::with_book;
 use book::Book;
+use console_lines::answers::error;
+use console_lines::answers::ok;
+use console_lines::answers::put_next;
 use lines::Words;
 use lines::is;
 use lines::number;

@@ -1,13 +1,13 @@
 // The commands on the run, which they alter.
+use crate::state::Done;
+use crate::state::State;
+use crate::state::with_run;
 use console_lines::answers::error;
 use console_lines::answers::ok;
 use console_lines::answers::put_diagram;
 use console_lines::answers::refused;
 use console_lines::arguments::MAX_ENTRIES;
 use console_lines::arguments::three_rooms;
-use crate::state::Done;
-use crate::state::State;
-use crate::state::with_run;
 use lines::Words;
 use lines::number;
 use lines::put_text;
