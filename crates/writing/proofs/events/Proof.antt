@@ -48,10 +48,10 @@ loop-again c = (
   c .before .before .before .before .event .kept .1 .0 ∙ c .before .before .before .before .before .before .before .before .before .before .loop .inv .1,
   c .before .before .before .before .event .kept .1 .1 .0 ∙ c .before .before .before .before .before .before .before .before .before .before .loop .inv .2,
   λ D S a0 a1 M.
-    let (T, N) = c .before .before .before .before .before .before .before .before .before .before .loop .inv .3 D S a0 a1 M in
-    let w = c .before .before .before .before .before .before .before .before .before .before .before .before .before .before .args .word .now in
-    let i = c .before .before .before .before .before .before .before .before .before .before .loop .i in
-    (_, c .before .before .before .before .event .ensures D T _ a0 a1 (rw (next-item w i (omega arith)) at N)),
+      let (T, N) = c .before .before .before .before .before .before .before .before .before .before .loop .inv .3 D S a0 a1 M in
+      let w = c .before .before .before .before .before .before .before .before .before .before .before .before .before .before .args .word .now in
+      let i = c .before .before .before .before .before .before .before .before .before .before .loop .i in
+      (_, c .before .before .before .before .event .ensures D T _ a0 a1 (rw (next-item w i (omega arith)) at N)),
 )
 
 same-length : tie.Need-same-length Inv-loop μ-loop
