@@ -1,6 +1,7 @@
 -- What a listing in blocks promises, by the cases of its answer: it writes what as many steps of the run would write (document 01, "Run"), one
 -- diagram after another, and leaves the run as they would. Lists named a are as they were lent, lists named b as they are handed back.
 --
+--   runOf n stage len items   the run of these fields
 --   ShortRows n rows ..       an output list is short for that many diagrams of n edges: rows · n, rows · n, rows · (n + 1), rows (refusal 9)
 --   Block n p k ..            the lists hold the k diagrams after position p, and after them what they held
 --   Leaves n p rows k next    k is how many of the rows asked for the list still has after position p, and next is the run after them
@@ -23,6 +24,9 @@ use Rattle.listing.specs.declared.Listing.{Listing}
 use Rattle.listing.specs.declared.Listing.the-variants as listing
 use Rattle.listing.specs.Rows.{blacks, whites, flatWords, lengths}
 use Rattle.listing.specs.Filling.{Marked}
+
+abbrev pub runOf : ℕ → ℕ → ℕ → List ℕ → Run
+runOf n stage len items = record { size = n; stage = stage; length = len; items = items }
 
 abbrev pub ShortRows : ℕ → ℕ → List ℕ → List ℕ → List ℕ → List ℕ → Type 0
 ShortRows n rows a0 a1 aw al = (length a0 < rows * n) ⊎ ((length a1 < rows * n) ⊎ ((length aw < rows * suc n) ⊎ (length al < rows)))
