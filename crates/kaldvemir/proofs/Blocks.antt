@@ -10,7 +10,7 @@ use Rattle.counting.specs.Listing.{count}
 use Rattle.positions.proofs.Answers.{at-length}
 use Rattle.running.specs.declared.Run.{Run}
 use Rattle.running.specs.Promises.{Stands, Over, given, finished}
-use Rattle.listing.specs.Promises.{Leaves, Lists, ListsMarked}
+use Rattle.listing.specs.Promises.{Leaves, Lists}
 use Rattle.listing.specs.declared.Listing.the-variants.{Rows}
 use Rattle.layout.specs.Layout.{run-of, run-numbers}
 use Rattle.kaldvemir.proofs.Stepped.{stands-size, over-size}
@@ -41,7 +41,3 @@ fitting-numbers l next f = rw (f .size-same) refl
 pub rows-fit : (l : List ℕ) (rows k : ℕ) (next : Run) (a0 a1 aw al b0 b1 bw bl : List ℕ) → Lists (run-of l) rows a0 a1 aw al next b0 b1 bw bl (Rows k) → Fitting l next
 rows-fit l rows k next a0 a1 aw al b0 b1 bw bl (inl x) = over-fits l (x .0 .0) next (x .0 .1) (x .2)
 rows-fit l rows k next a0 a1 aw al b0 b1 bw bl (inr g) = gave-fits l (g .size) (g .place) rows k next (g .stands) (g .leaves)
-
-pub marked-rows-fit : (l : List ℕ) (rows k : ℕ) (next : Run) (a0 a1 aw al am b0 b1 bw bl bm : List ℕ) → ListsMarked (run-of l) rows a0 a1 aw al am next b0 b1 bw bl bm (Rows k) → Fitting l next
-marked-rows-fit l rows k next a0 a1 aw al am b0 b1 bw bl bm (inl x) = over-fits l (x .0 .0) next (x .0 .1) (x .2)
-marked-rows-fit l rows k next a0 a1 aw al am b0 b1 bw bl bm (inr g) = gave-fits l (g .size) (g .place) rows k next (g .stands) (g .leaves)

@@ -9,28 +9,29 @@ use native.Mathlib.Omega.{arith}
 use lib.ListN.{length, take, length-append}
 use lib.Seq.{take-append-seam}
 use Rattle.lists.specs.Ranges.{Edge}
-use Rattle.lists.proofs.Tests.{lt?}
+use Rattle.lists.proofs.Tests.{lt?, same?}
 use Rattle.words.specs.Shape.{Word}
 use Rattle.words.specs.Outputs.{over}
-use Rattle.words.proofs.Shape.{word-length}
+use Rattle.words.proofs.Shape.{word-spells, word-length}
 use Rattle.counting.specs.Listing.{count}
 use Rattle.counting.specs.Position.{wordAt}
 use Rattle.counting.specs.Diagrams.{diagramOf, diagramAt}
 use Rattle.succession.specs.declared.Held.{Held}
+use Rattle.succession.specs.declared.Next.{Next}
 use Rattle.succession.specs.Succession.{following, held}
+use Rattle.succession.specs.Succeeds.{Agree, Succeeds}
+use Rattle.succession.proofs.Padding.{held-by}
 use Rattle.succession.proofs.Places.{word-at, following-at}
+use Rattle.drawing.specs.Drawn.{Listed, Long, Drawn, Shares}
+use Rattle.drawing.proofs.Laws.{drawn-whole}
 use Rattle.running.specs.declared.Run.{Run}
 use Rattle.running.specs.Promises.{given, finished, Stands}
 use Rattle.running.proofs.Giving.{held-length, held-within, held-word, held-at}
 use Rattle.listing.specs.Rows.{blacks, whites, flatWords, lengths}
-use Rattle.listing.specs.Filling.{Room, Row}
-use Rattle.listing.specs.Promises.{ShortRows, Block, Gave}
+use Rattle.listing.specs.Filling.{Room, Begin, Row}
+use Rattle.listing.specs.Promises.{runOf, ShortRows, Block, Gave}
 use Rattle.listing.proofs.Parts.{over-length, over-more, over-one}
-use Rattle.listing.proofs.Blocks.{black-length, rows-more, rows-within, blacks-length, whites-length, words-length, lengths-length, ended, goes-on}
-
--- a run of these fields
-abbrev pub runOf : ℕ → ℕ → ℕ → List ℕ → Run
-runOf n stage len items = record { size = n; stage = stage; length = len; items = items }
+use Rattle.listing.proofs.Blocks.{spelled-of, black-length, rows-more, rows-within, blacks-length, whites-length, words-length, lengths-length, ended, goes-on}
 
 -- the word that a run is at, [] where it is fresh, is the beginning of its items
 pub stands-word : (n q stage len : ℕ) (items : List ℕ) → Stands n q (runOf n stage len items) → (take len items ≡ wordAt n q) × (len ≤ length items)
@@ -56,6 +57,11 @@ long-rows n rows a0 a1 aw al k = (by _ _ (λ l. k (inl l)), by _ _ (λ l. k (inr
         go : (l < m) ⊎ (m ≤ l) → m ≤ l
         go (inl a) = absurd (k a)
         go (inr a) = a
+
+-- the lists that drawing needs: before the first row anything, then the drawing of the last row's word
+pub record Sketched (i : ℕ) (w pile popped d0 d1 : List ℕ) (used height : ℕ) : Type 0 where
+  pub long : Long pile popped d0 d1
+  pub drawn : (i ≡ 0) ⊎ Drawn w pile popped d0 d1 used height
 
 -- i rows are written, and the run has come to the fields stage, len and items
 pub record Midlist (run : Run) (rows : ℕ) (a0 a1 aw al : List ℕ) (stage : ℕ) (items : List ℕ) (len at place i : ℕ) (b0 b1 bw bl : List ℕ) : Type 0 where
@@ -100,13 +106,13 @@ module _ {run : Run} {rows : ℕ} {a0 a1 aw al : List ℕ} {stage : ℕ} {items 
   mid-word = (M .stands .sized, stands-some n (p + i) stage len items (M .come))
 
   -- the lists are as long as they were
-  pub record Long : Type 0 where
+  pub record AsLong : Type 0 where
     pub s0 : length b0 ≡ length a0
     pub s1 : length b1 ≡ length a1
     pub words : length bw ≡ length aw
     pub lengths : length bl ≡ length al
 
-  pub mid-long : Long
+  pub mid-long : AsLong
   mid-long =
       let L = long-rows n rows a0 a1 aw al (M .roomy) in
       let v = M .come .within in
@@ -138,9 +144,12 @@ module _ {run : Run} {rows : ℕ} {a0 a1 aw al : List ℕ} {stage : ℕ} {items 
     written = M .written;
   }
 
-  module _ (next : Held) (e : next ≡ held (following n (take len items))) (more : i < rows) where
-    next-held : next ≡ held w
-    next-held = e ∙ ap held next-is
+  module _ (next : Next) (S : Succeeds n (take len items) next) (more : i < rows) where
+    abbrev item : Held
+    item = record { length = next .length; items = next .items }
+
+    next-held : item ≡ held w
+    next-held = held-by n (take len items) next S ∙ ap held next-is
 
     -- after the last of the list
     pub mid-ends : next .length ≡ 0 → Gave run rows i (finished n) a0 a1 aw al b0 b1 bw bl
@@ -161,13 +170,13 @@ module _ {run : Run} {rows : ℕ} {a0 a1 aw al : List ℕ} {stage : ℕ} {items 
       word = word-at n (p + i) inside
 
       pub mid-next : take (next .length) (next .items) ≡ w
-      mid-next = held-word n w next next-held word
+      mid-next = held-word n w item next-held word
 
       pub mid-next-length : next .length ≡ length w
-      mid-next-length = held-length n w next next-held word
+      mid-next-length = held-length n w item next-held word
 
       pub mid-next-within : next .length ≤ length (next .items)
-      mid-next-within = held-within n w next next-held word
+      mid-next-within = held-within n w item next-held word
 
       -- there is room for the row
       pub mid-room : Room n (take (next .length) (next .items)) at place i b0 b1 bw bl
@@ -192,6 +201,33 @@ module _ {run : Run} {rows : ℕ} {a0 a1 aw al : List ℕ} {stage : ℕ} {items 
             room-length = omega arith;
           }
 
+      pub mid-listed : Listed (take (next .length) (next .items))
+      mid-listed = rw mid-next (n, M .stands .sized .1, word-spells n w word)
+
+      -- what is drawn of the last row serves for this one
+      pub mid-shares : (shared used height : ℕ) (pile popped d0 d1 : List ℕ) → (shared ≡ 0) ⊎ ((i ≢ 0) × (shared ≡ next .shared)) → Sketched i (take len items) pile popped d0 d1 used height
+          → Shares (take len items) (take (next .length) (next .items)) shared pile popped d0 d1 used height
+      mid-shares shared used height pile popped d0 d1 (inl z) K = inl z
+      mid-shares shared used height pile popped d0 d1 (inr (k, e)) K = go (same? shared 0) (K .drawn)
+        where
+          A : Agree shared (take len items) (take (next .length) (next .items))
+          A = rw (e, mid-next) (rw next-is at (S .agree))
+
+          go : (shared ≡ 0) ⊎ (shared ≢ 0) → (i ≡ 0) ⊎ Drawn (take len items) pile popped d0 d1 used height → Shares (take len items) (take (next .length) (next .items)) shared pile popped d0 d1 used height
+          go (inl z) d = inl z
+          go (inr z) (inl y) = absurd (k y)
+          go (inr z) (inr D) = inr (omega arith, A .in-first, A .in-second, A .same, D)
+
+      -- and drawn whole, it is the row's diagram
+      pub mid-begin : (used height : ℕ) (pile popped d0 d1 : List ℕ) → Drawn (take (next .length) (next .items)) pile popped d0 d1 used height
+          → Begin n (take (next .length) (next .items)) d0 d1
+      mid-begin used height pile popped d0 d1 K =
+          let q = drawn-whole w pile popped d0 d1 used height (rw mid-next at K) (diagramOf w) (spelled-of n w word) in
+          let e = rw (black-length n w word) at q in
+          let s = M .stands .sized in
+          let l = K .long in
+          rw mid-next record { in-black = omega arith; in-white = omega arith; black-is = e .0; white-is = e .1 }
+
       -- and it leaves the block one row longer
       pub mid-again : (c0 c1 cw cl : List ℕ) → Row (take (next .length) (next .items)) at place i b0 b1 bw bl c0 c1 cw cl → Midlist run rows a0 a1 aw al 1 (next .items) (next .length) (at + n) (place + next .length) (i + 1) c0 c1 cw cl
       unfolding blacks whites flatWords lengths diagramAt
@@ -212,7 +248,7 @@ module _ {run : Run} {rows : ℕ} {a0 a1 aw al : List ℕ} {stage : ℕ} {items 
             began = p;
             stands = M .stands;
             roomy = M .roomy;
-            come = rw add-suc record { sized = M .stands .sized; within = inside; is = held-at n w next next-held word };
+            come = rw add-suc record { sized = M .stands .sized; within = inside; is = held-at n w item next-held word };
             at-is = let e = rows-more n i in omega arith;
             place-is = ap (λ (k : ℕ). place + k) mid-next-length ∙ ap (λ (k : ℕ). k + length w) (M .place-is) ∙ sym (length-append (flatWords n p i) w);
             few = more;

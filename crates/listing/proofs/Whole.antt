@@ -10,7 +10,8 @@ use Rattle.running.specs.declared.Run.{Run}
 use Rattle.running.specs.Promises.{Stands}
 use Rattle.listing.specs.Rows.{blacks, whites, flatWords, lengths}
 use Rattle.listing.specs.Filling.{Holds, Marked}
-use Rattle.listing.specs.Promises.{ShortRows, ShortMarked, Leaves, Gave, GaveMarked}
+use Rattle.listing.specs.Promises.{Leaves, Gave, GaveMarked, Lists, ListsMarked}
+use Rattle.listing.specs.declared.Listing.the-variants.{Rows}
 
 -- the size is the run's
 stands-size : (n p : ℕ) (run : Run) → Stands n p run → run .size ≡ n
@@ -40,20 +41,10 @@ module _ {run : Run} {rows k : ℕ} {next : Run} {a0 a1 aw al b0 b1 bw bl : List
   gave-few = leaves-within (G .size) (G .place) rows k next (G .leaves) .1
 
   pub gave-marked : (am bm : List ℕ) → rows ≤ length am → Marked (run .size) (G .place) k am bm → GaveMarked run rows k next a0 a1 aw al am b0 b1 bw bl bm
-  gave-marked am bm l M0 =
-      let M : Marked (G .size) (G .place) k am bm = rw (stands-size (G .size) (G .place) run (G .stands)) at M0 in
-      record {
-        size = G .size;
-        place = G .place;
-        stands = G .stands;
-        roomy = roomy;
-        leaves = G .leaves;
-        written = G .written;
-        marks = M .marks;
-        marks-are = M .are;
-        marks-written = M .written;
-      }
-    where
-      roomy : ¬ ShortMarked (G .size) rows a0 a1 aw al am
-      roomy (inl s) = G .roomy s
-      roomy (inr s) = omega arith
+  gave-marked am bm l M = record { gave = G; roomy-marks = l; marked = rw (stands-size (G .size) (G .place) run (G .stands)) at M }
+
+-- a marked listing is a listing
+pub marked-lists : (run : Run) (rows k : ℕ) (next : Run) (a0 a1 aw al am b0 b1 bw bl bm : List ℕ)
+    → ListsMarked run rows a0 a1 aw al am next b0 b1 bw bl bm (Rows k) → Lists run rows a0 a1 aw al next b0 b1 bw bl (Rows k)
+marked-lists run rows k next a0 a1 aw al am b0 b1 bw bl bm (inl x) = inl (x .0)
+marked-lists run rows k next a0 a1 aw al am b0 b1 bw bl bm (inr x) = inr (x .gave)

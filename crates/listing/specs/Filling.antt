@@ -3,13 +3,14 @@
 --
 --   Room n w at place i ..     w is a word of n edges, and the lists have places for it: black and white from `at` on, the word from `place` on,
 --                              its length at i
+--   Begin n w d0 d1            the first n places of d0 and d1 are the lists of the diagram of w
 --   Row w at place i ..        they hold it there, and are else as they were
 --   Holds n p k ..             the lists begin with the k diagrams after position p
 --   Marked n p k am bm         the keep marks of these are written into the list am, now bm
 use mathlib.Core.Path.{_≡_}
 use mathlib.Core.List.{List, _++_}
 use Prim.Native.Nat.{ℕ, _+_, _≤_, _<_}
-use lib.ListN.{length, set}
+use lib.ListN.{length, take, set}
 use Rattle.lists.specs.Ranges.{Edge}
 use Rattle.words.specs.Shape.{Word}
 use Rattle.words.specs.Outputs.{over}
@@ -25,6 +26,12 @@ pub record Room (n : ℕ) (w : List ℕ) (at place i : ℕ) (a0 a1 aw al : List 
   pub room1 : at + n ≤ length a1
   pub room-word : place + length w ≤ length aw
   pub room-length : i < length al
+
+pub record Begin (n : ℕ) (w d0 d1 : List ℕ) : Type 0 where
+  pub in-black : n ≤ length d0
+  pub in-white : n ≤ length d1
+  pub black-is : take n d0 ≡ diagramOf w .black
+  pub white-is : take n d1 ≡ diagramOf w .white
 
 pub record Row (w : List ℕ) (at place i : ℕ) (a0 a1 aw al b0 b1 bw bl : List ℕ) : Type 0 where
   pub s0-is : b0 ≡ from at (diagramOf w .black) a0

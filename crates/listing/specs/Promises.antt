@@ -1,10 +1,15 @@
 -- What a listing in blocks promises, by the cases of its answer: it writes what as many steps of the run would write (document 01, "Run"), one
 -- diagram after another, and leaves the run as they would. Lists named a are as they were lent, lists named b as they are handed back.
 --
+--   runOf n stage len items   the run of these fields
 --   ShortRows n rows ..       an output list is short for that many diagrams of n edges: rows · n, rows · n, rows · (n + 1), rows (refusal 9)
 --   Block n p k ..            the lists hold the k diagrams after position p, and after them what they held
 --   Leaves n p rows k next    k is how many of the rows asked for the list still has after position p, and next is the run after them
+--   NoRows ..                 the run is finished: no rows
+--   Gave ..                   the run is not: the rows, and the run after them
+--   RefusedList ..            34: the run is neither fresh, nor at a diagram, nor finished; 9: it is not finished, and an output list is short
 --   Lists run rows ..         the promise of `list`
+--   GaveMarked ..             the rows, and their keep marks
 --   ListsMarked run rows ..   the promise of `list_marked`
 use mathlib.Core.Path.{_≡_}
 use mathlib.Core.Logic.{_⊎_}
@@ -17,7 +22,11 @@ use Rattle.running.specs.declared.Run.{Run}
 use Rattle.running.specs.Promises.{given, finished, Stands, Over}
 use Rattle.listing.specs.declared.Listing.{Listing}
 use Rattle.listing.specs.declared.Listing.the-variants as listing
-use Rattle.listing.specs.Rows.{blacks, whites, flatWords, lengths, Marks}
+use Rattle.listing.specs.Rows.{blacks, whites, flatWords, lengths}
+use Rattle.listing.specs.Filling.{Marked}
+
+abbrev pub runOf : ℕ → ℕ → ℕ → List ℕ → Run
+runOf n stage len items = record { size = n; stage = stage; length = len; items = items }
 
 abbrev pub ShortRows : ℕ → ℕ → List ℕ → List ℕ → List ℕ → List ℕ → Type 0
 ShortRows n rows a0 a1 aw al = (length a0 < rows * n) ⊎ ((length a1 < rows * n) ⊎ ((length aw < rows * suc n) ⊎ (length al < rows)))
@@ -38,11 +47,9 @@ pub record Same (a0 a1 aw al b0 b1 bw bl : List ℕ) : Type 0 where
   pub words-same : bw ≡ aw
   pub lengths-same : bl ≡ al
 
--- 34: the run is neither fresh, nor at a diagram, nor finished; 9: it is not finished, and an output list is short
-abbrev pub RefusedList : Run → ℕ → List ℕ → List ℕ → List ℕ → List ℕ → ℕ → Type 0
-RefusedList run rows a0 a1 aw al number =
-    ((number ≡ 34) × ((n p : ℕ) → ¬ Stands n p run) × ((n : ℕ) → ¬ Over n run))
-    ⊎ ((number ≡ 9) × ((n : ℕ) × (p : ℕ) × Stands n p run × ShortRows n rows a0 a1 aw al))
+-- a run that is finished answers no rows, and all stays as it was
+abbrev pub NoRows : Run → ℕ → Run → List ℕ → List ℕ → List ℕ → List ℕ → List ℕ → List ℕ → List ℕ → List ℕ → Type 0
+NoRows run k next a0 a1 aw al b0 b1 bw bl = ((n : ℕ) × Over n run) × (k ≡ 0) × (next ≡ run) × Same a0 a1 aw al b0 b1 bw bl
 
 -- the rows of a run that is not finished
 pub record Gave (run : Run) (rows k : ℕ) (next : Run) (a0 a1 aw al b0 b1 bw bl : List ℕ) : Type 0 where
@@ -53,36 +60,26 @@ pub record Gave (run : Run) (rows k : ℕ) (next : Run) (a0 a1 aw al b0 b1 bw bl
   pub leaves : Leaves size place rows k next
   pub written : Block size place k a0 a1 aw al b0 b1 bw bl
 
+-- Short n says that an output list is short at size n
+abbrev pub RefusedList : Run → (ℕ → Type 0) → ℕ → Type 0
+RefusedList run Short number =
+    ((number ≡ 34) × ((n p : ℕ) → ¬ Stands n p run) × ((n : ℕ) → ¬ Over n run)) ⊎ ((number ≡ 9) × ((n : ℕ) × (p : ℕ) × Stands n p run × Short n))
+
 -- the run and the rows asked for, the lists before; the run and the lists after
 abbrev pub Lists : Run → ℕ → List ℕ → List ℕ → List ℕ → List ℕ → Run → List ℕ → List ℕ → List ℕ → List ℕ → Listing → Type 0
-Lists run rows a0 a1 aw al next b0 b1 bw bl (listing.Rows k) =
-    (((n : ℕ) × Over n run) × (k ≡ 0) × (next ≡ run) × Same a0 a1 aw al b0 b1 bw bl) ⊎ Gave run rows k next a0 a1 aw al b0 b1 bw bl
+Lists run rows a0 a1 aw al next b0 b1 bw bl (listing.Rows k) = NoRows run k next a0 a1 aw al b0 b1 bw bl ⊎ Gave run rows k next a0 a1 aw al b0 b1 bw bl
 Lists run rows a0 a1 aw al next b0 b1 bw bl (listing.Refused number) =
-    RefusedList run rows a0 a1 aw al number × (next ≡ run) × Same a0 a1 aw al b0 b1 bw bl
+    RefusedList run (λ n. ShortRows n rows a0 a1 aw al) number × (next ≡ run) × Same a0 a1 aw al b0 b1 bw bl
 
--- ---- with the keep marks: a list of marks more
-
-abbrev pub ShortMarked : ℕ → ℕ → List ℕ → List ℕ → List ℕ → List ℕ → List ℕ → Type 0
-ShortMarked n rows a0 a1 aw al am = ShortRows n rows a0 a1 aw al ⊎ (length am < rows)
-
-abbrev pub RefusedMarked : Run → ℕ → List ℕ → List ℕ → List ℕ → List ℕ → List ℕ → ℕ → Type 0
-RefusedMarked run rows a0 a1 aw al am number =
-    ((number ≡ 34) × ((n p : ℕ) → ¬ Stands n p run) × ((n : ℕ) → ¬ Over n run))
-    ⊎ ((number ≡ 9) × ((n : ℕ) × (p : ℕ) × Stands n p run × ShortMarked n rows a0 a1 aw al am))
+-- ---- with the keep marks: a listing, and the marks of its rows
 
 pub record GaveMarked (run : Run) (rows k : ℕ) (next : Run) (a0 a1 aw al am b0 b1 bw bl bm : List ℕ) : Type 0 where
-  pub size : ℕ
-  pub place : ℕ
-  pub stands : Stands size place run
-  pub roomy : ¬ ShortMarked size rows a0 a1 aw al am
-  pub leaves : Leaves size place rows k next
-  pub written : Block size place k a0 a1 aw al b0 b1 bw bl
-  pub marks : List ℕ
-  pub marks-are : Marks size place k marks
-  pub marks-written : bm ≡ over marks am
+  pub gave : Gave run rows k next a0 a1 aw al b0 b1 bw bl
+  pub roomy-marks : rows ≤ length am
+  pub marked : Marked (gave .size) (gave .place) k am bm
 
 abbrev pub ListsMarked : Run → ℕ → List ℕ → List ℕ → List ℕ → List ℕ → List ℕ → Run → List ℕ → List ℕ → List ℕ → List ℕ → List ℕ → Listing → Type 0
 ListsMarked run rows a0 a1 aw al am next b0 b1 bw bl bm (listing.Rows k) =
-    (((n : ℕ) × Over n run) × (k ≡ 0) × (next ≡ run) × Same a0 a1 aw al b0 b1 bw bl × (bm ≡ am)) ⊎ GaveMarked run rows k next a0 a1 aw al am b0 b1 bw bl bm
+    (NoRows run k next a0 a1 aw al b0 b1 bw bl × (bm ≡ am)) ⊎ GaveMarked run rows k next a0 a1 aw al am b0 b1 bw bl bm
 ListsMarked run rows a0 a1 aw al am next b0 b1 bw bl bm (listing.Refused number) =
-    RefusedMarked run rows a0 a1 aw al am number × (next ≡ run) × Same a0 a1 aw al b0 b1 bw bl × (bm ≡ am)
+    RefusedList run (λ n. ShortRows n rows a0 a1 aw al ⊎ (length am < rows)) number × (next ≡ run) × Same a0 a1 aw al b0 b1 bw bl × (bm ≡ am)

@@ -1,17 +1,19 @@
 // Listing in blocks: the next diagrams of a run, as many as are asked for, one after another, as that many steps would give them. The run is
 // tested once for the whole block. Refuses 34, a run that is neither fresh, nor at a diagram, nor finished; a finished run answers "no rows";
-// then 9, an output list that is short. Fewer rows than asked for: the list ended, and the run is finished. With marks, the keep mark of each
-// diagram comes too: the arrays of a labelling are made once for the block, and no diagram that was written here is checked.
+// then 9, an output list that is short. Fewer rows than asked for: the list ended, and the run is finished. Each diagram is drawn from the one
+// before it, from where their words differ. With marks, the keep mark of each diagram comes too: the arrays of a labelling are made once for
+// the block, and no diagram that was written here is checked.
+use drawing::redraw;
 use labelled::tracing::trace;
 use lists::fill;
 use lists::wide;
 use running::Run;
 use running::sound;
-use succession::following;
+use succession::successor;
 use words::precedes;
-use writing::write_diagram;
+use writing::Marks;
 ghost use mathlib.Core.Path.{_≡_};
-ghost use mathlib.Core.Logic.{_⊎_};
+ghost use mathlib.Core.Logic.{_≢_, _⊎_};
 ghost use mathlib.Core.Bool.{true, false};
 ghost use Prim.Native.Nat.{ℕ, suc, _*_, _≤_, _<_};
 ghost use lib.ListN.{length};
@@ -19,9 +21,10 @@ ghost use Rattle.diagrams.specs.Check.{Accepts};
 ghost use Rattle.labelling.specs.Labelling.{wordOf};
 ghost use Rattle.labelled.specs.Scratch.{Ready};
 ghost use Rattle.canonical.specs.Among.{NoneBefore};
+ghost use Rattle.drawing.specs.Drawn.{Long};
 ghost use Rattle.running.specs.Promises.{Stands};
-ghost use Rattle.listing.specs.Filling.{Room, Row, Holds, Marked};
-ghost use Rattle.listing.specs.Promises.{ShortRows, Gave, Lists, ListsMarked};
+ghost use Rattle.listing.specs.Filling.{Room, Begin, Row, Holds, Marked};
+ghost use Rattle.listing.specs.Promises.{runOf, ShortRows, Gave, Lists, ListsMarked};
 
 // How many diagrams were written, or a refusal.
 pub enum Listing {
@@ -66,8 +69,11 @@ fn short_rows(n: usize, rows: usize, s0: usize, s1: usize, words: usize, lengths
     lengths < rows
 }
 
-// Writes the diagram of a word, the word and its length behind the rows before it.
+// Writes a diagram of n edges, its word and the word's length behind the rows before it.
 fn row(
+    black: &[u16],
+    white: &[u16],
+    n: usize,
     word: &[u16],
     at: usize,
     place: usize,
@@ -77,16 +83,88 @@ fn row(
     words: &mut [u16],
     lengths: &mut [u16],
 )
-    requires { ⌜ ((n : ℕ) × Room n (now word) at place i (now s0) (now s1) (now words) (now lengths)) ⌝ }
+    requires { ⌜ Room n (now word) at place i (now s0) (now s1) (now words) (now lengths) × Begin n (now word) (now black) (now white) ⌝ }
     ensures { λ _. ⌜ Row (now (word .entry)) at place i (now (s0 .entry)) (now (s1 .entry)) (now (words .entry)) (now (lengths .entry))
         (now (s0 .exit)) (now (s1 .exit)) (now (words .exit)) (now (lengths .exit)) ⌝ }
 {
+    fill(&mut s0[at..], &black[..n]);
+    fill(&mut s1[at..], &white[..n]);
     fill(&mut words[place..], word);
-    write_diagram(word, &mut s0[at..], &mut s1[at..]);
     lengths[i] = word.len() as u16;
 }
 
-// The rows of a run that is not finished, into lists that are long enough.
+// How much of the last row's drawing serves the next row: nothing is drawn before the first.
+fn kept(i: usize, shared: usize) -> usize
+    ensures { λ r. ⌜ (r ≡ 0) ⊎ ((i ≢ 0) × (r ≡ shared)) ⌝ }
+{
+    if i == 0 {
+        return 0;
+    }
+    shared
+}
+
+// The rows so far, and the run with these fields.
+fn arrived(rows: usize, size: u64, stage: u64, length: usize, items: [u16; 51]) -> Reached
+    ensures { λ r. ⌜ (r .rows ≡ rows) × (r .run ≡ runOf size stage length items) ⌝ }
+{
+    Reached {
+        rows,
+        run: Run {
+            size,
+            stage,
+            length: length as u64,
+            items,
+        },
+    }
+}
+
+// The rows of a run that is not finished, into lists that are long enough. The drawing goes on from row to row.
+fn draw_rows(
+    run: Run,
+    rows: usize,
+    pile: &mut [u16; 64],
+    popped: &mut [u16; 64],
+    d0: &mut [u16; 64],
+    d1: &mut [u16; 64],
+    s0: &mut [u16],
+    s1: &mut [u16],
+    words: &mut [u16],
+    lengths: &mut [u16],
+) -> Reached
+    requires { ⌜ ((p : ℕ) × Stands (run .size) p run × (¬ ShortRows (run .size) rows (now s0) (now s1) (now words) (now lengths))) ⌝ }
+    requires { ⌜ Long (now pile) (now popped) (now d0) (now d1) ⌝ }
+    ensures { λ r. ⌜ Gave run rows (r .rows) (r .run) (now (s0 .entry)) (now (s1 .entry)) (now (words .entry)) (now (lengths .entry))
+        (now (s0 .exit)) (now (s1 .exit)) (now (words .exit)) (now (lengths .exit)) ⌝ }
+{
+    let n = run.size as usize;
+    let mut marks = Marks { used: 0, height: 0 };
+    let mut stage = run.stage;
+    let mut items = run.items;
+    let mut l = run.length as usize;
+    let mut at: usize = 0;
+    let mut place: usize = 0;
+    let mut i: usize = 0;
+    while i < rows {
+        let next = successor(&items[..l], run.size as u16);
+        let k = next.length;
+        if k == 0 {
+            return arrived(i, run.size, 2, 0, [0u16; 51]);
+        }
+        let shared = kept(i, next.shared);
+        let new = next.items;
+        marks = redraw(&items[..l], &new[..k], shared, pile, popped, d0, d1, marks);
+        row(d0, d1, n, &new[..k], at, place, i, s0, s1, words, lengths);
+        stage = 1;
+        items = new;
+        l = k;
+        at += n;
+        place += k;
+        i += 1;
+    }
+    arrived(i, run.size, stage, l, items)
+}
+
+// The same, with the lists that drawing needs.
 fn rows_of(
     run: Run,
     rows: usize,
@@ -99,44 +177,22 @@ fn rows_of(
     ensures { λ r. ⌜ Gave run rows (r .rows) (r .run) (now (s0 .entry)) (now (s1 .entry)) (now (words .entry)) (now (lengths .entry))
         (now (s0 .exit)) (now (s1 .exit)) (now (words .exit)) (now (lengths .exit)) ⌝ }
 {
-    let n = run.size as u16;
-    let size = run.size as usize;
-    let mut stage = run.stage;
-    let mut items = run.items;
-    let mut length = run.length as usize;
-    let mut at: usize = 0;
-    let mut place: usize = 0;
-    let mut i: usize = 0;
-    while i < rows {
-        let next = following(&items[..length], n);
-        if next.length == 0 {
-            return Reached {
-                rows: i,
-                run: Run {
-                    size: run.size,
-                    stage: 2,
-                    length: 0,
-                    items: [0u16; 51],
-                },
-            };
-        }
-        stage = 1;
-        items = next.items;
-        length = next.length;
-        row(&items[..length], at, place, i, s0, s1, words, lengths);
-        at += size;
-        place += length;
-        i += 1;
-    }
-    Reached {
-        rows: i,
-        run: Run {
-            size: run.size,
-            stage,
-            length: length as u64,
-            items,
-        },
-    }
+    let mut pile = [0u16; 64];
+    let mut popped = [0u16; 64];
+    let mut d0 = [0u16; 64];
+    let mut d1 = [0u16; 64];
+    draw_rows(
+        run,
+        rows,
+        &mut pile,
+        &mut popped,
+        &mut d0,
+        &mut d1,
+        s0,
+        s1,
+        words,
+        lengths,
+    )
 }
 
 // The next diagrams of a run, at most as many as the rows asked for: black lists, white lists, words and lengths of words, one after another.

@@ -1,4 +1,4 @@
--- The branches of the code's `following` and `first`: which of them gives the word that follows, and that 51 places are enough for it.
+-- The branches of the code's `successor` and `first`: which of them gives the word that follows, and that 51 places are enough for it.
 use mathlib.Core.Path.{_≡_, refl, ap, _∙_}
 use mathlib.Core.Logic.{_≢_, _⊎_, inl, inr}
 use mathlib.Core.Bool.{true, false, true≢false}

@@ -1,19 +1,21 @@
 -- A word under construction in 51 places, with zeros after it: one item more, and the least way to end written item by item.
-use mathlib.Core.Path.{_≡_, refl, ap, _∙_}
+use mathlib.Core.Path.{_≡_, refl, sym, ap, _∙_}
 use mathlib.Core.Logic.{_≢_}
 use mathlib.Core.Bool.{true}
 use mathlib.Core.List.{List, [], _∷_, _++_, append-assoc, append-nil}
 use Prim.Native.Nat.{ℕ, zero, suc, _+_, _-_, _≤_, _<_}
 use native.Mathlib.Omega.{arith}
-use lib.ListN.{length, set, drop, replicate}
-use lib.Seq.{set-append-seam}
+use lib.ListN.{length, set, take, drop, replicate, length-append}
+use lib.Seq.{set-append-seam, length-take-le, take-at}
 use lib.Dec.{leb}
 use Rattle.lists.specs.Lists.{pick}
 use Rattle.lists.proofs.Tests.{le-true}
 use Rattle.lists.proofs.Lists.{length-1}
 use Rattle.succession.specs.declared.Level.{Level}
 use Rattle.succession.specs.declared.Held.{Held}
-use Rattle.succession.specs.Succession.{after, ends, leads, lead, ending, padded, held}
+use Rattle.succession.specs.declared.Next.{Next}
+use Rattle.succession.specs.Succession.{after, ends, leads, lead, ending, following, padded, held, sharing}
+use Rattle.succession.specs.Succeeds.{Agree, Succeeds}
 use Rattle.succession.proofs.Levels.{leads-less}
 use Rattle.succession.proofs.Events.{Leads, lead-least}
 use Rattle.succession.proofs.Endings.{ending-step, ending-0}
@@ -36,8 +38,24 @@ padded-over b items l e = e ∙ rw (le-true (length b) 51 l, drop-zeros (length 
 pub padded-both : (p v items : List ℕ) (x length′ : ℕ) → (items ≡ padded ((p ++ (x ∷ [])) ++ v)) × (length′ ≡ length ((p ++ (x ∷ [])) ++ v)) → (items ≡ padded (p ++ (x ∷ v))) × (length′ ≡ length (p ++ (x ∷ v)))
 padded-both p v items x length′ r = let e = append-assoc p (x ∷ []) v in (r .0 ∙ ap padded e, r .1 ∙ ap length e)
 
-pub held-by : (w items : List ℕ) (length′ : ℕ) → (items ≡ padded w) × (length′ ≡ length w) → _≡_ {A = Held} record { length = length′; items = items } (held w)
-held-by w items length′ r = rw (r .0, r .1)
+pub sharing-by : (k : ℕ) (w items : List ℕ) (length′ : ℕ) → (items ≡ padded w) × (length′ ≡ length w) → _≡_ {A = Next} record { shared = k; length = length′; items = items } (sharing k w)
+sharing-by k w items length′ r = rw (r .0, r .1)
+
+pub held-by : (n : ℕ) (w : List ℕ) (r : Next) → Succeeds n w r → _≡_ {A = Held} record { length = r .length; items = r .items } (held (following n w))
+held-by n w r S = rw (S .length-is, S .items-are)
+
+-- ---- how far two words agree
+
+pub agree-none : (v w : List ℕ) → Agree 0 v w
+agree-none v w = record { in-first = omega arith; in-second = omega arith; same = refl }
+
+pub agree-take : (k : ℕ) (v w : List ℕ) → k ≤ length v → Agree k v (take k v ++ w)
+agree-take k v w l =
+    let e = length-take-le k v l in
+    record { in-first = l; in-second = rw (length-append, e) (omega arith); same = sym (take-at (take k v) w k e) }
+
+pub succeeds : (n k : ℕ) (w v : List ℕ) (r : Next) → following n w ≡ v → Agree k w v → r ≡ sharing k v → Succeeds n w r
+succeeds n k w v r e a q = rw q record { length-is = rw e; items-are = rw e; agree = rw e a }
 
 -- the items hold q, whose least ending from h and f on is the least ending of p from h₀ and f₀ on
 pub record Wrote (p : List ℕ) (h₀ f₀ : ℕ) (items : List ℕ) (i h f : ℕ) : Type 0 where

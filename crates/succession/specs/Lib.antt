@@ -1,2 +1,3 @@
 pub mod Succession
 pub mod Reading
+pub mod Succeeds

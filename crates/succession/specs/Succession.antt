@@ -14,6 +14,7 @@
 --   first n            the first word of size n
 --   following n w      the word that follows w among the words of size n: the first after [], and [] after the last
 --   padded w, held w   a word in the first places of 51, with zeros after it; the same with its length
+--   sharing k w        the same with how many items the word before it begins with too
 -- That these do what they say is `tails-some`, `tails-none`, `next-at` and `following-at` of proofs/Places.antt.
 use mathlib.Core.Bool.{Bool, true, false}
 use mathlib.Core.List.{List, [], _∷_, _++_}
@@ -24,6 +25,7 @@ use Rattle.lists.specs.Lists.{pick}
 use Rattle.words.specs.Shape.{pre, less1, less3}
 use Rattle.succession.specs.declared.Level.{Level}
 use Rattle.succession.specs.declared.Held.{Held}
+use Rattle.succession.specs.declared.Next.{Next}
 
 abbrev pub level : ℕ → ℕ → Level
 level h f = record { height = h; free = f }
@@ -112,3 +114,6 @@ padded w = w ++ replicate (51 - length w) 0
 
 abbrev pub held : List ℕ → Held
 held w = record { length = length w; items = padded w }
+
+abbrev pub sharing : ℕ → List ℕ → Next
+sharing k w = record { shared = k; length = length w; items = padded w }

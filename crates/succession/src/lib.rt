@@ -9,7 +9,8 @@ ghost use Prim.Native.Nat.{ℕ, _+_, _≤_};
 ghost use lib.ListN.{length, take};
 ghost use Rattle.lists.specs.Ranges.{Edge};
 ghost use Rattle.words.specs.Shape.{Fits, Word};
-ghost use Rattle.succession.specs.Succession.{level, stuck, after, start, ends, leads, jump, better, above, lead, ending, first, following, padded, held};
+ghost use Rattle.succession.specs.Succession.{level, stuck, after, start, ends, leads, jump, better, above, lead, ending, first, following, padded, held, sharing};
+ghost use Rattle.succession.specs.Succeeds.{Succeeds};
 ghost use Rattle.succession.specs.Reading.{Read, Raises};
 
 // How many labels are pending, and how many are still free.
@@ -20,6 +21,13 @@ pub struct Level {
 
 // A word in the first places of 51, with zeros after it.
 pub struct Held {
+    pub length: usize,
+    pub items: [u16; 51],
+}
+
+// The word that follows a word, in the first places of 51 with zeros after it, and how many items both begin with.
+pub struct Next {
+    pub shared: usize,
     pub length: usize,
     pub items: [u16; 51],
 }
@@ -278,31 +286,39 @@ fn grow(items: &mut [u16; 51], at: usize, event: u16, height: u16, free: u16) ->
 }
 
 // The least word of a size that begins with U, or with T.
-fn rooted(n: u16, root: u16) -> Held
+fn rooted(n: u16, root: u16) -> Next
     requires { ⌜ (n ≤ 50) × (ends (start n root .height) (start n root .free) ≡ true) ⌝ }
-    ensures { λ r. ⌜ r ≡ held (root ∷ ending (start n root .height) (start n root .free)) ⌝ }
+    ensures { λ r. ⌜ r ≡ sharing 0 (root ∷ ending (start n root .height) (start n root .free)) ⌝ }
 {
     let l = start(n, root);
     let mut items = [0u16; 51];
     let length = grow(&mut items, 0, root, l.height, l.free);
-    Held { length, items }
+    Next {
+        shared: 0,
+        length,
+        items,
+    }
 }
 
 // The word with an item raised, and the least way to end after that.
-fn raise_at(word: &[u16], place: usize, event: u16, height: u16, free: u16) -> Held
+fn raise_at(word: &[u16], place: usize, event: u16, height: u16, free: u16) -> Next
     requires { ⌜ (place ≤ length (now word)) × (place + 1 + length (ending height free) ≤ 51) × (ends height free ≡ true) × (height + free ≤ 50) ⌝ }
-    ensures { λ r. ⌜ r ≡ held (take place (now (word .entry)) ++ (event ∷ ending height free)) ⌝ }
+    ensures { λ r. ⌜ r ≡ sharing place (take place (now (word .entry)) ++ (event ∷ ending height free)) ⌝ }
 {
     let mut items = [0u16; 51];
     fill(&mut items, &word[..place]);
     let length = grow(&mut items, place, event, height, free);
-    Held { length, items }
+    Next {
+        shared: place,
+        length,
+        items,
+    }
 }
 
 // The first word of a size.
-fn first(n: u16) -> Held
+fn first(n: u16) -> Next
     requires { ⌜ Edge 50 n ⌝ }
-    ensures { λ r. ⌜ r ≡ held (first n) ⌝ }
+    ensures { λ r. ⌜ r ≡ sharing 0 (first n) ⌝ }
 {
     let u = start(n, 0);
     if ends(u.height, u.free) {
@@ -311,10 +327,10 @@ fn first(n: u16) -> Held
     rooted(n, 1)
 }
 
-// The word that follows a word of n edges: the first after the empty list, and the empty list after the last.
-pub fn following(word: &[u16], n: u16) -> Held
+// The word that follows a word of n edges, and how far the two agree: to the item that is raised, not at all where the word begins anew.
+pub fn successor(word: &[u16], n: u16) -> Next
     requires { ⌜ Edge 50 n × ((now word ≡ []) ⊎ Word n (now word)) ⌝ }
-    ensures { λ r. ⌜ r ≡ held (following n (now (word .entry))) ⌝ }
+    ensures { λ r. ⌜ Succeeds n (now (word .entry)) r ⌝ }
 {
     if word.len() == 0 {
         return first(n);
@@ -328,8 +344,22 @@ pub fn following(word: &[u16], n: u16) -> Held
             return rooted(n, 1);
         }
     }
-    Held {
+    Next {
+        shared: 0,
         length: 0,
         items: [0u16; 51],
+    }
+}
+
+// The word that follows a word of n edges: the first after the empty list, and the empty list after the last.
+pub fn following(word: &[u16], n: u16) -> Held
+    requires { ⌜ Edge 50 n × ((now word ≡ []) ⊎ Word n (now word)) ⌝ }
+    ensures { λ r. ⌜ r ≡ held (following n (now (word .entry))) ⌝ }
+{
+    let next = successor(word, n);
+    let items = next.items;
+    Held {
+        length: next.length,
+        items,
     }
 }

@@ -16,6 +16,7 @@ use Rattle.words.specs.Word.{Pair, spells, spell, Spells}
 use Rattle.words.specs.Outputs.{over}
 use Rattle.words.proofs.Growing.{none≢some, picked}
 use Rattle.words.proofs.Shape.{grows}
+use Rattle.writing.specs.States.{State, after, moved, opening}
 use Rattle.writing.specs.Midway.{three, joined, Shifted, Room, Holds, Midway}
 use Rattle.writing.proofs.Lists.{piled-push, piled-at, piled-cut, over-length, over-one, over-three, over-put}
 
@@ -99,46 +100,45 @@ module _ (k : ℕ) (r s0 s1 a0 a1 pile b0 b1 : List ℕ) (used : ℕ) (H : Holds
 
 -- ---- an event, its label k being popped
 
-pub record Popped (D : Pair) (x : ℕ) (w a0 a1 pile b0 b1 : List ℕ) (used h k : ℕ) : Type 0 where
+pub record Popped (D : Pair) (x : ℕ) (w : List ℕ) (S : State) (a0 a1 pile b0 b1 : List ℕ) (used h k : ℕ) : Type 0 where
   pub rest : List ℕ
-  pub s0 : List ℕ
-  pub s1 : List ℕ
-  pub goes : spells (x ∷ w) (k ∷ rest) s0 s1 ≡ some D
-  pub holds : Holds (k ∷ rest) s0 s1 a0 a1 pile b0 b1 used
+  pub pending-is : S .pending ≡ k ∷ rest
+  pub goes : spells (x ∷ w) (k ∷ rest) (S .black) (S .white) ≡ some D
+  pub holds : Holds (k ∷ rest) (S .black) (S .white) a0 a1 pile b0 b1 used
   pub h-is : h ≡ length rest
   pub room : Room D a0 a1
 
-module _ (D : Pair) (w a0 a1 pile b0 b1 : List ℕ) (used : ℕ) where
-  pub pending-some : (x height : ℕ) → Midway D (x ∷ w) a0 a1 pile b0 b1 used height → (1 ≤ height) × (height ≤ 50)
+module _ (D : Pair) (w : List ℕ) (S : State) (a0 a1 pile b0 b1 : List ℕ) (used : ℕ) where
+  pub pending-some : (x height : ℕ) → Midway D (x ∷ w) S a0 a1 pile b0 b1 used height → (1 ≤ height) × (height ≤ 50)
   unfolding spells
-  pending-some x height M = go (M .pending) (M .goes) (M .holds) (M .height-is)
+  pending-some x height M = go (S .pending) (M .goes) (M .holds) (M .height-is)
     where
-      go : (p : List ℕ) → spells (x ∷ w) p (M .s0) (M .s1) ≡ some D → Holds p (M .s0) (M .s1) a0 a1 pile b0 b1 used → height ≡ length p → (1 ≤ height) × (height ≤ 50)
+      go : (p : List ℕ) → spells (x ∷ w) p (S .black) (S .white) ≡ some D → Holds p (S .black) (S .white) a0 a1 pile b0 b1 used → height ≡ length p → (1 ≤ height) × (height ≤ 50)
       go [] g H e = absurd (none≢some D g)
       go (k ∷ r) g H e =
-          let u = grows (x ∷ w) (k ∷ r) (M .s0) (M .s1) D g in
+          let u = grows (x ∷ w) (k ∷ r) (S .black) (S .white) D g in
           let v = M .room .small in
           let y = H .low in
           let z = H .used-is in
           omega arith
 
-  pub popped : (x height h : ℕ) → Midway D (x ∷ w) a0 a1 pile b0 b1 used height → h ≡ height - 1 → Popped D x w a0 a1 pile b0 b1 used h (getD pile h 0)
+  pub popped : (x height h : ℕ) → Midway D (x ∷ w) S a0 a1 pile b0 b1 used height → h ≡ height - 1 → Popped D x w S a0 a1 pile b0 b1 used h (getD pile h 0)
   unfolding spells
-  popped x height h M f = go (M .pending) (M .goes) (M .holds) (M .height-is)
+  popped x height h M f = go (S .pending) refl (M .goes) (M .holds) (M .height-is)
     where
-      go : (p : List ℕ) → spells (x ∷ w) p (M .s0) (M .s1) ≡ some D → Holds p (M .s0) (M .s1) a0 a1 pile b0 b1 used → height ≡ length p → Popped D x w a0 a1 pile b0 b1 used h (getD pile h 0)
-      go [] g H e = absurd (none≢some D g)
-      go (k ∷ r) g H e =
+      go : (p : List ℕ) → S .pending ≡ p → spells (x ∷ w) p (S .black) (S .white) ≡ some D → Holds p (S .black) (S .white) a0 a1 pile b0 b1 used → height ≡ length p → Popped D x w S a0 a1 pile b0 b1 used h (getD pile h 0)
+      go [] y g H e = absurd (none≢some D g)
+      go (k ∷ r) y g H e =
           let q : h ≡ length r = omega arith in
           let i : getD pile h 0 ≡ k = rw q (H .piled .0) in
-          rw i record { rest = r; s0 = M .s0; s1 = M .s1; goes = g; holds = H; h-is = q; room = M .room }
+          rw i record { rest = r; pending-is = y; goes = g; holds = H; h-is = q; room = M .room }
 
   module _ (h k : ℕ) where
-    pub midway-W : Popped D 0 w a0 a1 pile b0 b1 used h k → Midway D w a0 a1 pile b0 b1 used h
-    unfolding spells
-    midway-W P = record { pending = P .rest; s0 = P .s0; s1 = P .s1; goes = P .goes; holds = holds-W k (P .rest) (P .s0) (P .s1) a0 a1 pile b0 b1 used (P .holds); height-is = P .h-is; room = P .room }
+    pub midway-W : Popped D 0 w S a0 a1 pile b0 b1 used h k → Midway D w (moved 0 S) a0 a1 pile b0 b1 used h
+    unfolding spells after
+    midway-W P = rw (P .pending-is) record { goes = P .goes; holds = holds-W k (P .rest) (S .black) (S .white) a0 a1 pile b0 b1 used (P .holds); height-is = P .h-is; room = P .room }
 
-    module _ (P : Popped D 1 w a0 a1 pile b0 b1 used h k) where
+    module _ (P : Popped D 1 w S a0 a1 pile b0 b1 used h k) where
       grown-F : used + 3 ≤ length (D .black)
       unfolding spells
       grown-F = let i = rw length-3 at (grows w _ _ _ D (P .goes)) in let z = P .holds .used-is in omega arith
@@ -152,23 +152,20 @@ module _ (D : Pair) (w a0 a1 pile b0 b1 : List ℕ) (used : ℕ) where
           let u = P .holds .used-is in
           let v = P .holds .even in
           let t = P .h-is in
-          let l0 : length b0 ≡ length a0 = ap length (P .holds .s0-is) ∙ over-length (P .s0) a0 (omega arith) in
-          let l1 : length b1 ≡ length a1 = ap length (P .holds .s1-is) ∙ over-length (P .s1) a1 (omega arith) in
+          let l0 : length b0 ≡ length a0 = ap length (P .holds .s0-is) ∙ over-length (S .black) a0 (omega arith) in
+          let l1 : length b1 ≡ length a1 = ap length (P .holds .s1-is) ∙ over-length (S .white) a1 (omega arith) in
           (z, omega arith, omega arith, omega arith, omega arith)
 
-      pub midway-F : Midway D w a0 a1 (set (set pile h (used + 2)) (h + 1) (used + 3)) (three b0 used (used + 2) (used + 3) (used + 1)) (three (set b1 (k - 1) (used + 1)) used k (used + 2) (used + 3)) (used + 3) (h + 2)
-      unfolding spells
-      midway-F = let i = grown-F in let j = P .room in record {
-        pending = _;
-        s0 = _;
-        s1 = _;
+      pub midway-F : Midway D w (moved 1 S) a0 a1 (set (set pile h (used + 2)) (h + 1) (used + 3)) (three b0 used (used + 2) (used + 3) (used + 1)) (three (set b1 (k - 1) (used + 1)) used k (used + 2) (used + 3)) (used + 3) (h + 2)
+      unfolding spells after
+      midway-F = let i = grown-F in let j = P .room in rw (P .pending-is) record {
         goes = P .goes;
-        holds = holds-F k (P .rest) (P .s0) (P .s1) a0 a1 pile b0 b1 used (P .holds) h (P .h-is) (omega arith) (omega arith) (omega arith);
+        holds = holds-F k (P .rest) (S .black) (S .white) a0 a1 pile b0 b1 used (P .holds) h (P .h-is) (omega arith) (omega arith) (omega arith);
         height-is = let z = P .h-is in omega arith;
         room = P .room;
       }
 
-    module _ (P : Popped D 2 w a0 a1 pile b0 b1 used h k) where
+    module _ (P : Popped D 2 w S a0 a1 pile b0 b1 used h k) where
       grown-B : used + 1 ≤ length (D .black)
       unfolding spells
       grown-B = let i = rw length-1 at (grows w _ _ _ D (P .goes)) in let z = P .holds .used-is in omega arith
@@ -180,32 +177,29 @@ module _ (D : Pair) (w a0 a1 pile b0 b1 : List ℕ) (used : ℕ) where
           let z = P .holds .within .0 in
           let u = P .holds .used-is in
           let v = P .holds .even in
-          let l0 : length b0 ≡ length a0 = ap length (P .holds .s0-is) ∙ over-length (P .s0) a0 (omega arith) in
-          let l1 : length b1 ≡ length a1 = ap length (P .holds .s1-is) ∙ over-length (P .s1) a1 (omega arith) in
+          let l0 : length b0 ≡ length a0 = ap length (P .holds .s0-is) ∙ over-length (S .black) a0 (omega arith) in
+          let l1 : length b1 ≡ length a1 = ap length (P .holds .s1-is) ∙ over-length (S .white) a1 (omega arith) in
           (z, omega arith, omega arith, omega arith)
 
-      pub midway-B : Midway D w a0 a1 pile (set b0 used (used + 1)) (set (set b1 (k - 1) (used + 1)) used k) (used + 1) h
-      unfolding spells
-      midway-B = let i = grown-B in let j = P .room in record {
-        pending = P .rest;
-        s0 = _;
-        s1 = _;
+      pub midway-B : Midway D w (moved 2 S) a0 a1 pile (set b0 used (used + 1)) (set (set b1 (k - 1) (used + 1)) used k) (used + 1) h
+      unfolding spells after
+      midway-B = let i = grown-B in let j = P .room in rw (P .pending-is) record {
         goes = P .goes;
-        holds = holds-B k (P .rest) (P .s0) (P .s1) a0 a1 pile b0 b1 used (P .holds) (omega arith) (omega arith);
+        holds = holds-B k (P .rest) (S .black) (S .white) a0 a1 pile b0 b1 used (P .holds) (omega arith) (omega arith);
         height-is = P .h-is;
         room = P .room;
       }
 
-    module _ (x d : ℕ) (is-J : x ≡ suc (suc (suc d))) (P : Popped D x w a0 a1 pile b0 b1 used h k) where
+    module _ (x d : ℕ) (is-J : x ≡ suc (suc (suc d))) (P : Popped D x w S a0 a1 pile b0 b1 used h k) where
       abbrev partner : ℕ
       partner = getD (P .rest) d 0
 
       abbrev rest-white : List ℕ
-      rest-white = put (put (P .s1) k partner) partner k
+      rest-white = put (put (S .white) k partner) partner k
 
-      jumped : (ltb d (length (P .rest)) ≡ true) × (spells w (cut d (P .rest)) (P .s0) rest-white ≡ some D)
+      jumped : (ltb d (length (P .rest)) ≡ true) × (spells w (cut d (P .rest)) (S .black) rest-white ≡ some D)
       unfolding spells
-      jumped = picked (ltb d (length (P .rest))) (spells w (cut d (P .rest)) (P .s0) rest-white) D (rw is-J at (P .goes))
+      jumped = picked (ltb d (length (P .rest))) (spells w (cut d (P .rest)) (S .black) rest-white) D (rw is-J at (P .goes))
 
       deep : d < length (P .rest)
       deep = ltb-true d (length (P .rest)) (jumped .0)
@@ -215,7 +209,7 @@ module _ (D : Pair) (w a0 a1 pile b0 b1 : List ℕ) (used : ℕ) where
 
       pub room-J : (d < h) × (h ≤ 50) × (length pile ≡ 64) × Edge (length b1) k × Edge (length b1) (getD pile (h - 1 - d) 0)
       room-J =
-          let i = grows w (cut d (P .rest)) (P .s0) rest-white D (jumped .1) in
+          let i = grows w (cut d (P .rest)) (S .black) rest-white D (jumped .1) in
           let j = P .room in
           let y = P .holds .low in
           let z = P .holds .within .0 in
@@ -223,20 +217,18 @@ module _ (D : Pair) (w a0 a1 pile b0 b1 : List ℕ) (used : ℕ) where
           let v = P .holds .even in
           let t = P .h-is in
           let l = deep in
-          let x = p-in k (P .rest) (P .s0) (P .s1) a0 a1 pile b0 b1 used (P .holds) d deep in
-          let l1 : length b1 ≡ length a1 = ap length (P .holds .s1-is) ∙ over-length (P .s1) a1 (omega arith) in
+          let x = p-in k (P .rest) (S .black) (S .white) a0 a1 pile b0 b1 used (P .holds) d deep in
+          let l1 : length b1 ≡ length a1 = ap length (P .holds .s1-is) ∙ over-length (S .white) a1 (omega arith) in
           (omega arith, omega arith, P .holds .long, omega arith, rw (partner-at (h - 1 - d) refl) (omega arith))
 
-      pub midway-J : (q : List ℕ) → Shifted pile q (h - 1 - d) (h - 1) → Midway D w a0 a1 q b0 (joined b1 k (getD pile (h - 1 - d) 0)) used (h - 1)
+      pub midway-J : (q : List ℕ) → Shifted pile q (h - 1 - d) (h - 1) → Midway D w (moved x S) a0 a1 q b0 (joined b1 k (getD pile (h - 1 - d) 0)) used (h - 1)
+      unfolding after
       midway-J q s =
           let l = deep in
           let t = P .h-is in
-          rw (partner-at (h - 1 - d) refl) record {
-            pending = cut d (P .rest);
-            s0 = P .s0;
-            s1 = rest-white;
+          rw (is-J, P .pending-is, partner-at (h - 1 - d) refl) record {
             goes = jumped .1;
-            holds = holds-J k (P .rest) (P .s0) (P .s1) a0 a1 pile b0 b1 used (P .holds) d deep q (h - 1 - d) (h - 1) s (omega arith) (omega arith);
+            holds = holds-J k (P .rest) (S .black) (S .white) a0 a1 pile b0 b1 used (P .holds) d deep q (h - 1 - d) (h - 1) s (omega arith) (omega arith);
             height-is = let z = length-cut d (P .rest) deep in omega arith;
             room = P .room;
           }
@@ -257,12 +249,9 @@ first-T D w (suc zero) n e = (refl, grows w _ _ _ D e)
 first-T D w (suc (suc x)) n e = absurd (none≢some D e)
 
 module _ (D : Pair) (w a0 a1 pile : List ℕ) (R : Room D a0 a1) (long : length pile ≡ 64) where
-  pub midway-U : spell (0 ∷ w) ≡ some D → Midway D w a0 a1 (set pile 0 1) (set a0 0 1) (set a1 0 1) 1 1
-  unfolding spell
+  pub midway-U : spell (0 ∷ w) ≡ some D → Midway D w (opening 0) a0 a1 (set pile 0 1) (set a0 0 1) (set a1 0 1) 1 1
+  unfolding spell opening
   midway-U e = let i = first-some D w 0 e in record {
-    pending = 1 ∷ [];
-    s0 = 1 ∷ [];
-    s1 = 1 ∷ [];
     goes = e;
     holds = record {
       long = length-set pile 0 1 ∙ long;
@@ -278,12 +267,9 @@ module _ (D : Pair) (w a0 a1 pile : List ℕ) (R : Room D a0 a1) (long : length 
     room = R;
   }
 
-  pub midway-T : spell (1 ∷ w) ≡ some D → Midway D w a0 a1 (set (set (set pile 0 1) 1 2) 2 3) (three a0 0 2 3 1) (three a1 0 1 2 3) 3 3
-  unfolding spell
+  pub midway-T : spell (1 ∷ w) ≡ some D → Midway D w (opening 1) a0 a1 (set (set (set pile 0 1) 1 2) 2 3) (three a0 0 2 3 1) (three a1 0 1 2 3) 3 3
+  unfolding spell opening
   midway-T e = let i = first-T D w 1 (λ z. omega arith) e .1 in record {
-    pending = 3 ∷ 2 ∷ 1 ∷ [];
-    s0 = 2 ∷ 3 ∷ 1 ∷ [];
-    s1 = 1 ∷ 2 ∷ 3 ∷ [];
     goes = e;
     holds = record {
       long = simp length-set long;
@@ -299,12 +285,12 @@ module _ (D : Pair) (w a0 a1 pile : List ℕ) (R : Room D a0 a1) (long : length 
     room = R;
   }
 
-pub midway-end : (D : Pair) (a0 a1 pile b0 b1 : List ℕ) (used height : ℕ) → Midway D [] a0 a1 pile b0 b1 used height → (b0 ≡ over (D .black) a0) × (b1 ≡ over (D .white) a1)
+pub midway-end : (D : Pair) (S : State) (a0 a1 pile b0 b1 : List ℕ) (used height : ℕ) → Midway D [] S a0 a1 pile b0 b1 used height → (b0 ≡ over (D .black) a0) × (b1 ≡ over (D .white) a1)
 unfolding spells
-midway-end D a0 a1 pile b0 b1 used height M = go (M .pending) (M .goes)
+midway-end D S a0 a1 pile b0 b1 used height M = go (S .pending) (M .goes)
   where
-    go : (p : List ℕ) → spells [] p (M .s0) (M .s1) ≡ some D → (b0 ≡ over (D .black) a0) × (b1 ≡ over (D .white) a1)
-    go [] e = let x : D .black ≡ M .s0 = cc in let y : D .white ≡ M .s1 = cc in (rw x (M .holds .s0-is), rw y (M .holds .s1-is))
+    go : (p : List ℕ) → spells [] p (S .black) (S .white) ≡ some D → (b0 ≡ over (D .black) a0) × (b1 ≡ over (D .white) a1)
+    go [] e = let x : D .black ≡ S .black = cc in let y : D .white ≡ S .white = cc in (rw x (M .holds .s0-is), rw y (M .holds .s1-is))
     go (k ∷ r) e = absurd (none≢some D e)
 
 -- ---- a whole word

@@ -28,7 +28,7 @@ jump-item (suc (suc (suc x))) d a b e f = omega arith
 
 -- ---- the pile
 
-piled-same : (p q r : List ℕ) → ((j : ℕ) → j < length r → getD q j 0 ≡ getD p j 0) → Piled p r → Piled q r
+pub piled-same : (p q r : List ℕ) → ((j : ℕ) → j < length r → getD q j 0 ≡ getD p j 0) → Piled p r → Piled q r
 piled-same p q [] e h = tt
 piled-same p q (k ∷ r) e h = (e (length r) (omega arith) ∙ h .0, piled-same p q r (λ j l. e j (omega arith)) (h .1))
 

@@ -7,7 +7,7 @@
 --   Shifted p q at end          q is p with the entry at `at` taken out and those after it, up to the place `end`, moved down by one
 --   Room D a0 a1                the diagram D is of a listed size, and the lists have places enough for it
 --   Holds pending s0 s1 ..      the pile holds the pending labels, and the lists begin with s0 and s1, those of the labels given so far
---   Midway D w ..               the items w finish the diagram D from here
+--   Midway D w S ..             the lists and the pile hold the state S, and the items w finish the diagram D from it
 use mathlib.Core.Path.{_≡_}
 use mathlib.Core.Option.{some}
 use mathlib.Core.List.{List, [], _∷_}
@@ -17,6 +17,7 @@ use Rattle.lists.specs.Lists.{All}
 use Rattle.lists.specs.Ranges.{Edge}
 use Rattle.words.specs.Word.{Pair, spells}
 use Rattle.words.specs.Outputs.{over}
+use Rattle.writing.specs.States.{State}
 
 abbrev pub three : List ℕ → ℕ → ℕ → ℕ → ℕ → List ℕ
 three s i a b c = set (set (set s i a) (i + 1) b) (i + 2) c
@@ -48,11 +49,8 @@ pub record Holds (pending s0 s1 a0 a1 pile b0 b1 : List ℕ) (used : ℕ) : Type
   pub s0-is : b0 ≡ over s0 a0
   pub s1-is : b1 ≡ over s1 a1
 
-pub record Midway (D : Pair) (w a0 a1 pile b0 b1 : List ℕ) (used height : ℕ) : Type 0 where
-  pub pending : List ℕ
-  pub s0 : List ℕ
-  pub s1 : List ℕ
-  pub goes : spells w pending s0 s1 ≡ some D
-  pub holds : Holds pending s0 s1 a0 a1 pile b0 b1 used
-  pub height-is : height ≡ length pending
+pub record Midway (D : Pair) (w : List ℕ) (S : State) (a0 a1 pile b0 b1 : List ℕ) (used height : ℕ) : Type 0 where
+  pub goes : spells w (S .pending) (S .black) (S .white) ≡ some D
+  pub holds : Holds (S .pending) (S .black) (S .white) a0 a1 pile b0 b1 used
+  pub height-is : height ≡ length (S .pending)
   pub room : Room D a0 a1

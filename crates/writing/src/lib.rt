@@ -9,12 +9,13 @@ ghost use lib.ListN.{length, getD, set};
 ghost use Rattle.lists.specs.Ranges.{Edge};
 ghost use Rattle.words.specs.Word.{Pair, spell, Spells};
 ghost use Rattle.words.specs.Outputs.{over};
+ghost use Rattle.writing.specs.States.{State, moved, opening};
 ghost use Rattle.writing.specs.Midway.{three, joined, Shifted, Room, Midway};
 
 // How many labels are given, and how many of them are pending.
-struct Marks {
-    used: u16,
-    height: usize,
+pub struct Marks {
+    pub used: u16,
+    pub height: usize,
 }
 
 // Three entries, one after the other.
@@ -91,7 +92,7 @@ fn jump(pile: &mut [u16; 64], s1: &mut [u16], k: u16, d: usize, height: usize)
 }
 
 // One event: the top label k is popped, and the item says what becomes of it.
-fn event(
+pub fn event(
     pile: &mut [u16; 64],
     s0: &mut [u16],
     s1: &mut [u16],
@@ -99,9 +100,9 @@ fn event(
     used: u16,
     height: usize,
 ) -> Marks
-    requires { ⌜ ((D : Pair) × (w a0 a1 : List ℕ) × Midway D (item ∷ w) a0 a1 (now pile) (now s0) (now s1) used height) ⌝ }
-    ensures { λ r. ⌜ ((D : Pair) (w a0 a1 : List ℕ) → Midway D (item ∷ w) a0 a1 (now (pile .entry)) (now (s0 .entry)) (now (s1 .entry)) used height
-        → Midway D w a0 a1 (now (pile .exit)) (now (s0 .exit)) (now (s1 .exit)) (r .used) (r .height)) ⌝ }
+    requires { ⌜ ((D : Pair) × (S : State) × (w a0 a1 : List ℕ) × Midway D (item ∷ w) S a0 a1 (now pile) (now s0) (now s1) used height) ⌝ }
+    ensures { λ r. ⌜ ((D : Pair) (S : State) (w a0 a1 : List ℕ) → Midway D (item ∷ w) S a0 a1 (now (pile .entry)) (now (s0 .entry)) (now (s1 .entry)) used height
+        → Midway D w (moved item S) a0 a1 (now (pile .exit)) (now (s0 .exit)) (now (s1 .exit)) (r .used) (r .height)) ⌝ }
 {
     let h = height - 1;
     let k = pile[h];
@@ -140,8 +141,8 @@ fn events(
     used: u16,
     height: usize,
 )
-    requires { ⌜ ((D : Pair) × (a0 a1 : List ℕ) × Midway D (now word) a0 a1 (now pile) (now s0) (now s1) used height) ⌝ }
-    ensures { λ _. ⌜ ((D : Pair) (a0 a1 : List ℕ) → Midway D (now (word .entry)) a0 a1 (now (pile .entry)) (now (s0 .entry)) (now (s1 .entry)) used height
+    requires { ⌜ ((D : Pair) × (S : State) × (a0 a1 : List ℕ) × Midway D (now word) S a0 a1 (now pile) (now s0) (now s1) used height) ⌝ }
+    ensures { λ _. ⌜ ((D : Pair) (S : State) (a0 a1 : List ℕ) → Midway D (now (word .entry)) S a0 a1 (now (pile .entry)) (now (s0 .entry)) (now (s1 .entry)) used height
         → (now (s0 .exit) ≡ over (D .black) a0) × (now (s1 .exit) ≡ over (D .white) a1)) ⌝ }
 {
     let mut u = used;
@@ -156,10 +157,10 @@ fn events(
 }
 
 // U or T: the root alone on its black vertex, or the first of three.
-fn begin(pile: &mut [u16; 64], s0: &mut [u16], s1: &mut [u16], root: u16) -> Marks
+pub fn begin(pile: &mut [u16; 64], s0: &mut [u16], s1: &mut [u16], root: u16) -> Marks
     requires { ⌜ (length (now pile) ≡ 64) × ((D : Pair) × (w : List ℕ) × (spell (root ∷ w) ≡ some D) × Room D (now s0) (now s1)) ⌝ }
     ensures { λ r. ⌜ ((D : Pair) (w : List ℕ) → spell (root ∷ w) ≡ some D → Room D (now (s0 .entry)) (now (s1 .entry))
-        → Midway D w (now (s0 .entry)) (now (s1 .entry)) (now (pile .exit)) (now (s0 .exit)) (now (s1 .exit)) (r .used) (r .height)) ⌝ }
+        → Midway D w (opening root) (now (s0 .entry)) (now (s1 .entry)) (now (pile .exit)) (now (s0 .exit)) (now (s1 .exit)) (r .used) (r .height)) ⌝ }
 {
     match root {
         0 => {

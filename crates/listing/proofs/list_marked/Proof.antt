@@ -24,7 +24,7 @@ returns c =
     (inl (refl, k .0, k .1), refl, same-lists _ _ _ _, refl)
 
 returns-2 : tie.Need-returns-2
-returns-2 c = let a = c .before .before .before .before .before .before .before .before .before .args in inl (is-over (a .run) (is-sound (c .before .before)) (c .if2 .taken), refl, refl, same-lists _ _ _ _, refl)
+returns-2 c = let a = c .before .before .before .before .before .before .before .before .before .args in inl ((is-over (a .run) (is-sound (c .before .before)) (c .if2 .taken), refl, refl, same-lists _ _ _ _), refl)
 
 short-rows-requires : tie.Need-short-rows-requires
 short-rows-requires c κs = is-sound (c .before .before) .sized

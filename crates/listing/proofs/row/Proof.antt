@@ -1,14 +1,14 @@
 -- `row` meets its contract: each list is filled from its place on, and put back.
-use borrow.Author.Needs.{needs}
-use mathlib.Core.Path.{_≡_, refl}
-use Prim.Native.Nat.{ℕ, _+_, _-_, _≤_}
+use mathlib.Core.Path.{_≡_, refl, sym, ap, _∙_}
+use mathlib.Core.List.{List}
+use Prim.Native.Nat.{ℕ, _+_, _≤_}
 use native.Mathlib.Omega.{arith}
-use lib.ListN.{length, take, drop, length-take, length-drop}
-use Rattle.words.proofs.Shape.{word-spells, word-length}
-use Rattle.counting.specs.Diagrams.{diagramOf}
+use lib.ListN.{length, take}
+use lib.Seq.{length-take-le}
+use Rattle.words.proofs.Shape.{word-length}
+use Rattle.walking.specs.Walk.{from}
 use Rattle.walking.proofs.Texts.{filled}
-use Rattle.listing.proofs.Parts.{laid, rest-room}
-use Rattle.listing.proofs.Blocks.{black-length, white-length, spelled-of}
+use borrow.Author.Needs.{needs}
 use Rattle.listing.proofs.row.Statement.{statement}
 use Rattle.listing.proofs.row.Tie as tie
 
@@ -24,44 +24,50 @@ part-fill-start c = search needs
 part-fill-end : tie.Need-part-fill-end
 part-fill-end c = search needs
 
+slice-aggregate-fill : tie.Need-slice-aggregate-fill
+slice-aggregate-fill c = sym (length-take-le _ _ (c .before .before .before .before .before .before .before .before .before .pre .1 .in-black))
+
 fill-requires : tie.Need-fill-requires
 fill-requires c κs = search needs
 
-mul-write-diagram : tie.Need-mul-write-diagram
-mul-write-diagram c = search needs
+mul-fill-2 : tie.Need-mul-fill-2
+mul-fill-2 c = search needs
 
-sub-write-diagram : tie.Need-sub-write-diagram
-sub-write-diagram c = search needs
+sub-fill-2 : tie.Need-sub-fill-2
+sub-fill-2 c = search needs
 
-part-write-diagram-start : tie.Need-part-write-diagram-start
-part-write-diagram-start c = search needs
+part-fill-start-2 : tie.Need-part-fill-start-2
+part-fill-start-2 c = search needs
 
-part-write-diagram-end : tie.Need-part-write-diagram-end
-part-write-diagram-end c = search needs
+part-fill-end-2 : tie.Need-part-fill-end-2
+part-fill-end-2 c = search needs
 
-mul-write-diagram-2 : tie.Need-mul-write-diagram-2
-mul-write-diagram-2 c = search needs
+slice-aggregate-fill-2 : tie.Need-slice-aggregate-fill-2
+slice-aggregate-fill-2 c = sym (length-take-le _ _ (c .before .before .before .before .before .before .before .before .before .before .before .before .before .before .pre .1 .in-white))
 
-sub-write-diagram-2 : tie.Need-sub-write-diagram-2
-sub-write-diagram-2 c = search needs
+fill-requires-2 : tie.Need-fill-requires-2
+fill-requires-2 c κs = search needs
 
-part-write-diagram-start-2 : tie.Need-part-write-diagram-start-2
-part-write-diagram-start-2 c = search needs
+mul-fill-3 : tie.Need-mul-fill-3
+mul-fill-3 c = search needs
 
-part-write-diagram-end-2 : tie.Need-part-write-diagram-end-2
-part-write-diagram-end-2 c = search needs
+sub-fill-3 : tie.Need-sub-fill-3
+sub-fill-3 c = search needs
 
-write-diagram-requires : tie.Need-write-diagram-requires
-write-diagram-requires c κs =
-    let d = c .before .before .before .before .before .before .before .before .before .before .before in
-    let R = d .pre .1 in
-    (d .pre .0, word-spells _ _ (R .word), R .small, rest-room (d .args .at) (d .pre .0) (d .args .s0 .now) (R .room0), rest-room (d .args .at) (d .pre .0) (d .args .s1 .now) (R .room1))
+part-fill-start-3 : tie.Need-part-fill-start-3
+part-fill-start-3 c = search needs
+
+part-fill-end-3 : tie.Need-part-fill-end-3
+part-fill-end-3 c = search needs
+
+fill-requires-3 : tie.Need-fill-requires-3
+fill-requires-3 c κs = search needs
 
 cast-lengths : tie.Need-cast-lengths
 cast-lengths c =
-    let d = c .before .before .before .before .before .before .before .before .before .before .before .before .before .before .before .before in
-    let l = word-length (d .pre .0) (d .args .word .now) (d .pre .1 .word) in
-    let s = d .pre .1 .small in
+    let d = c .before .before .before .before .before .before .before .before .before .before .before .before .before .before .before .before .before .before .before .before .before in
+    let l = word-length (d .args .n) (d .args .word .now) (d .pre .0 .word) in
+    let s = d .pre .0 .small in
     record { fits = omega arith }
 
 mul-lengths : tie.Need-mul-lengths
@@ -84,18 +90,18 @@ same-length-4 c = search needs
 
 returns : tie.Need-returns
 returns c =
-    let d = c .before .before .before .before .before .before .before .before .before .before .before .before .before .before .before .before in
-    let R = d .pre .1 in
-    let D = diagramOf (d .args .word .now) in
-    let s = c .before .before .before .before .write-diagram .ensures D (spelled-of (d .pre .0) (d .args .word .now) (R .word)) in
-    let b = black-length (d .pre .0) (d .args .word .now) (R .word) in
-    let e = white-length (d .pre .0) (d .args .word .now) (R .word) in
+    let d = c .before .before .before .before .before .before .before .before .before .before .before .before .before .before .before .before .before .before .before .before .before in
+    let a = d .args in
+    let R = d .pre .0 in
+    let B = d .pre .1 in
     let r0 = R .room0 in
     let r1 = R .room1 in
+    let l0 = length-take-le (a .n) (a .black .now) (B .in-black) in
+    let l1 = length-take-le (a .n) (a .white .now) (B .in-white) in
     record {
-      s0-is = laid (d .args .at) (D .black) (d .args .s0 .now) _ (omega arith) (s .0);
-      s1-is = laid (d .args .at) (D .white) (d .args .s1 .now) _ (omega arith) (s .1);
-      words-is = filled (d .args .place) (d .args .word .now) (d .args .words .now) _ (R .room-word) (c .before .before .before .before .before .before .before .before .before .fill .ensures);
+      s0-is = filled (a .at) (take (a .n) (a .black .now)) (a .s0 .now) _ (omega arith) (c .before .before .before .before .before .before .before .before .before .before .before .fill .ensures) ∙ ap (λ (x : List ℕ). from (a .at) x (a .s0 .now)) (B .black-is);
+      s1-is = filled (a .at) (take (a .n) (a .white .now)) (a .s1 .now) _ (omega arith) (c .before .before .before .before .before .before .fill2 .ensures) ∙ ap (λ (x : List ℕ). from (a .at) x (a .s1 .now)) (B .white-is);
+      words-is = filled (a .place) (a .word .now) (a .words .now) _ (R .room-word) (c .before .before .fill3 .ensures);
       lengths-is = refl;
     }
 
@@ -107,16 +113,19 @@ row-spec =
     sub-fill
     part-fill-start
     part-fill-end
+    slice-aggregate-fill
     fill-requires
-    mul-write-diagram
-    sub-write-diagram
-    part-write-diagram-start
-    part-write-diagram-end
-    mul-write-diagram-2
-    sub-write-diagram-2
-    part-write-diagram-start-2
-    part-write-diagram-end-2
-    write-diagram-requires
+    mul-fill-2
+    sub-fill-2
+    part-fill-start-2
+    part-fill-end-2
+    slice-aggregate-fill-2
+    fill-requires-2
+    mul-fill-3
+    sub-fill-3
+    part-fill-start-3
+    part-fill-end-3
+    fill-requires-3
     cast-lengths
     mul-lengths
     slice-write-lengths

@@ -3,7 +3,7 @@ use borrow.Author.Needs.{needs}
 use mathlib.Core.Path.{refl}
 use mathlib.Core.List.{_∷_, []}
 use Rattle.succession.specs.Succession.{ending}
-use Rattle.succession.proofs.Padding.{held-by}
+use Rattle.succession.proofs.Padding.{sharing-by}
 use Rattle.succession.proofs.Forwards.{start-small}
 use Rattle.succession.proofs.Branches.{rooted-room}
 use Rattle.succession.proofs.rooted.Statement.{statement}
@@ -21,7 +21,7 @@ grow-requires c κs =
 returns : tie.Need-returns
 returns c =
     let l = c .before .before .start .result in
-    rw (← (c .before .before .start .ensures)) (held-by (c .before .before .before .args .root ∷ ending (l .height) (l .free)) _ _ (c .grow .ensures [] refl refl))
+    rw (← (c .before .before .start .ensures)) (sharing-by 0 (c .before .before .before .args .root ∷ ending (l .height) (l .free)) _ _ (c .grow .ensures [] refl refl))
 
 pub rooted-spec : {M : Type 1} → statement M
 rooted-spec = tie.close (tie.spec start-requires grow-requires returns)

@@ -38,7 +38,7 @@ same-length-2 c = search needs
 returns : tie.Need-returns
 returns c = λ D w e R.
     let start = c .before .before .before in
-    midway-U D w _ _ (start .args .pile .now) R (start .pre .0) (rw (c .match .keys1) at e)
+    rw (c .match .keys1) (midway-U D w _ _ (start .args .pile .now) R (start .pre .0) (rw (c .match .keys1) at e))
 
 same-length-3 : tie.Need-same-length-3
 same-length-3 c = search needs
@@ -49,7 +49,7 @@ same-length-4 c = search needs
 returns-2 : tie.Need-returns-2
 returns-2 c = λ D w e R.
     let start = c .before .before .before .before .before .before .before .before .before .before .before in
-    let i = first-T D w _ (c .before .before .before .before .before .before .before .before .match .rest .1) e in rw (c .before .before .write-three2 .ensures, c .before .before .before .before .before .before .write-three .ensures) (midway-T D w _ _ (start .args .pile .now) R (start .pre .0) (rw (i .0) at e))
+    let i = first-T D w _ (c .before .before .before .before .before .before .before .before .match .rest .1) e in rw (c .before .before .write-three2 .ensures, c .before .before .before .before .before .before .write-three .ensures) (rw (i .0) (midway-T D w _ _ (start .args .pile .now) R (start .pre .0) (rw (i .0) at e)))
 
 pub begin-spec : {M : Type 1} → statement M
 begin-spec =

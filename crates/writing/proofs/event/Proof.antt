@@ -8,28 +8,28 @@ use Rattle.writing.proofs.event.Statement.{statement}
 use Rattle.writing.proofs.event.Tie as tie
 
 sub-h : tie.Need-sub-h
-sub-h c = let (D, w, a0, a1, M) = c .before .before .pre in let i = pending-some _ _ _ _ _ _ _ _ _ _ M in omega arith
+sub-h c = let (D, S, w, a0, a1, M) = c .before .before .pre in let i = pending-some _ _ _ _ _ _ _ _ _ _ _ M in omega arith
 
 mul-k : tie.Need-mul-k
 mul-k c = search needs
 
 element-copy-out-k : tie.Need-element-copy-out-k
-element-copy-out-k c = let (D, w, a0, a1, M) = c .before .before .pre in let i = pending-some _ _ _ _ _ _ _ _ _ _ M in omega arith
+element-copy-out-k c = let (D, S, w, a0, a1, M) = c .before .before .pre in let i = pending-some _ _ _ _ _ _ _ _ _ _ _ M in omega arith
 
 fork-requires : tie.Need-fork-requires
-fork-requires c κs = let (D, w, a0, a1, M) = c .before .before .before .before .before .before .before .pre in room-F _ _ _ _ _ _ _ _ _ _ (popped _ _ _ _ _ _ _ _ 1 _ _ (rw (c .before .before .before .match .keys2) at M) refl)
+fork-requires c κs = let (D, S, w, a0, a1, M) = c .before .before .before .before .before .before .before .pre in room-F _ _ _ _ _ _ _ _ _ _ _ (popped _ _ _ _ _ _ _ _ _ 1 _ _ (rw (c .before .before .before .match .keys2) at M) refl)
 
 add-t20 : tie.Need-add-t20
-add-t20 c = let (D, w, a0, a1, M) = c .before .before .before .before .before .before .before .before .before .before .before .before .pre in let i = room-F _ _ _ _ _ _ _ _ _ _ (popped _ _ _ _ _ _ _ _ 1 _ _ (rw (c .before .before .before .before .before .before .before .before .match .keys2) at M) refl) in omega (arith, i .1)
+add-t20 c = let (D, S, w, a0, a1, M) = c .before .before .before .before .before .before .before .before .before .before .before .before .pre in let i = room-F _ _ _ _ _ _ _ _ _ _ _ (popped _ _ _ _ _ _ _ _ _ 1 _ _ (rw (c .before .before .before .before .before .before .before .before .match .keys2) at M) refl) in omega (arith, i .1)
 
 add-t21 : tie.Need-add-t21
 add-t21 c = search needs
 
 bud-requires : tie.Need-bud-requires
-bud-requires c κs = let (D, w, a0, a1, M) = c .before .before .before .before .before .before .pre in room-B _ _ _ _ _ _ _ _ _ _ (popped _ _ _ _ _ _ _ _ 2 _ _ (rw (c .before .before .match .keys3) at M) refl)
+bud-requires c κs = let (D, S, w, a0, a1, M) = c .before .before .before .before .before .before .pre in room-B _ _ _ _ _ _ _ _ _ _ _ (popped _ _ _ _ _ _ _ _ _ 2 _ _ (rw (c .before .before .match .keys3) at M) refl)
 
 add-t27 : tie.Need-add-t27
-add-t27 c = let (D, w, a0, a1, M) = c .before .before .before .before .before .before .before .before .before .before .before .pre in let i = room-B _ _ _ _ _ _ _ _ _ _ (popped _ _ _ _ _ _ _ _ 2 _ _ (rw (c .before .before .before .before .before .before .before .match .keys3) at M) refl) in omega (arith, i .1)
+add-t27 c = let (D, S, w, a0, a1, M) = c .before .before .before .before .before .before .before .before .before .before .before .pre in let i = room-B _ _ _ _ _ _ _ _ _ _ _ (popped _ _ _ _ _ _ _ _ _ 2 _ _ (rw (c .before .before .before .before .before .before .before .match .keys3) at M) refl) in omega (arith, i .1)
 
 sub-wide : tie.Need-sub-wide
 sub-wide c = search needs
@@ -39,18 +39,18 @@ wide-requires c κs = search needs
 
 jump-requires : tie.Need-jump-requires
 jump-requires c κs =
-    let (D, w, a0, a1, M) = c .before .before .before .before .before .before .before .pre in
-    let i = room-J _ _ _ _ _ _ _ _ _ _ _ _ (jump-item _ _ (c .before .before .before .match .rest .0 .0 .1) (c .before .before .before .match .rest .0 .1) (c .before .before .before .match .rest .1) (c .wide .ensures)) (popped _ _ _ _ _ _ _ _ _ _ _ M refl) in
+    let (D, S, w, a0, a1, M) = c .before .before .before .before .before .before .before .pre in
+    let i = room-J _ _ _ _ _ _ _ _ _ _ _ _ _ (jump-item _ _ (c .before .before .before .match .rest .0 .0 .1) (c .before .before .before .match .rest .0 .1) (c .before .before .before .match .rest .1) (c .wide .ensures)) (popped _ _ _ _ _ _ _ _ _ _ _ _ M refl) in
     (i .0, omega (arith, i .1), i .2, i .3, i .4)
 
 sub-t32 : tie.Need-sub-t32
 sub-t32 c =
-    let (D, w, a0, a1, M) = c .before .before .before .before .before .before .before .before .before .before .pre in
-    let i = room-J _ _ _ _ _ _ _ _ _ _ _ _ (jump-item _ _ (c .before .before .before .before .before .before .match .rest .0 .0 .1) (c .before .before .before .before .before .before .match .rest .0 .1) (c .before .before .before .before .before .before .match .rest .1) (c .before .before .before .wide .ensures)) (popped _ _ _ _ _ _ _ _ _ _ _ M refl) in
+    let (D, S, w, a0, a1, M) = c .before .before .before .before .before .before .before .before .before .before .pre in
+    let i = room-J _ _ _ _ _ _ _ _ _ _ _ _ _ (jump-item _ _ (c .before .before .before .before .before .before .match .rest .0 .0 .1) (c .before .before .before .before .before .before .match .rest .0 .1) (c .before .before .before .before .before .before .match .rest .1) (c .before .before .before .wide .ensures)) (popped _ _ _ _ _ _ _ _ _ _ _ _ M refl) in
     omega (arith, i .0)
 
 returns : tie.Need-returns
-returns c = λ D w a0 a1 M. midway-W _ _ _ _ _ _ _ _ _ _ (popped _ _ _ _ _ _ _ _ 0 _ _ (rw (c .match .keys1) at M) refl)
+returns c = λ D S w a0 a1 M. rw (c .match .keys1) (midway-W _ _ _ _ _ _ _ _ _ _ _ (popped _ _ _ _ _ _ _ _ _ 0 _ _ (rw (c .match .keys1) at M) refl))
 
 same-length : tie.Need-same-length
 same-length c = search needs
@@ -59,7 +59,7 @@ same-length-2 : tie.Need-same-length-2
 same-length-2 c = search needs
 
 returns-2 : tie.Need-returns-2
-returns-2 c = λ D w a0 a1 M. rw (c .before .before .before .before .fork .ensures .0, c .before .before .before .before .fork .ensures .1, c .before .before .before .before .fork .ensures .2) (midway-F _ _ _ _ _ _ _ _ _ _ (popped _ _ _ _ _ _ _ _ 1 _ _ (rw (c .before .before .before .before .before .before .before .before .match .keys2) at M) refl))
+returns-2 c = λ D S w a0 a1 M. rw (c .before .before .before .before .before .before .before .before .match .keys2, c .before .before .before .before .fork .ensures .0, c .before .before .before .before .fork .ensures .1, c .before .before .before .before .fork .ensures .2) (midway-F _ _ _ _ _ _ _ _ _ _ _ (popped _ _ _ _ _ _ _ _ _ 1 _ _ (rw (c .before .before .before .before .before .before .before .before .match .keys2) at M) refl))
 
 same-length-3 : tie.Need-same-length-3
 same-length-3 c = search needs
@@ -68,15 +68,15 @@ same-length-4 : tie.Need-same-length-4
 same-length-4 c = search needs
 
 returns-3 : tie.Need-returns-3
-returns-3 c = λ D w a0 a1 M. rw (c .before .before .before .before .bud .ensures .0, c .before .before .before .before .bud .ensures .1) (midway-B _ _ _ _ _ _ _ _ _ _ (popped _ _ _ _ _ _ _ _ 2 _ _ (rw (c .before .before .before .before .before .before .before .match .keys3) at M) refl))
+returns-3 c = λ D S w a0 a1 M. rw (c .before .before .before .before .before .before .before .match .keys3, c .before .before .before .before .bud .ensures .0, c .before .before .before .before .bud .ensures .1) (midway-B _ _ _ _ _ _ _ _ _ _ _ (popped _ _ _ _ _ _ _ _ _ 2 _ _ (rw (c .before .before .before .before .before .before .before .match .keys3) at M) refl))
 
 same-length-5 : tie.Need-same-length-5
 same-length-5 c = search needs
 
 returns-4 : tie.Need-returns-4
-returns-4 c = λ D w a0 a1 M.
+returns-4 c = λ D S w a0 a1 M.
     let e = jump-item _ _ (c .before .before .before .before .before .before .match .rest .0 .0 .1) (c .before .before .before .before .before .before .match .rest .0 .1) (c .before .before .before .before .before .before .match .rest .1) (c .before .before .before .wide .ensures) in
-    rw (c .before .before .jump .ensures .1) (midway-J _ _ _ _ _ _ _ _ _ _ _ _ e (popped _ _ _ _ _ _ _ _ _ _ _ M refl) _ (c .before .before .jump .ensures .0))
+    rw (c .before .before .jump .ensures .1) (midway-J _ _ _ _ _ _ _ _ _ _ _ _ _ e (popped _ _ _ _ _ _ _ _ _ _ _ _ M refl) _ (c .before .before .jump .ensures .0))
 
 pub event-spec : {M : Type 1} → statement M
 event-spec =

@@ -7,6 +7,7 @@ use native.Mathlib.Omega.{arith}
 use lib.ListN.{length, drop, drop-of-length-le}
 use Rattle.writing.proofs.Lists.{next-item}
 use Rattle.words.specs.Word.{Pair}
+use Rattle.writing.specs.States.{State}
 use Rattle.writing.specs.Midway.{Midway}
 use Rattle.writing.proofs.Laws.{midway-end}
 use Rattle.writing.proofs.events.Statement.{statement}
@@ -14,13 +15,13 @@ use Rattle.writing.proofs.events.Tie as tie
 
 abbrev Inv-loop : tie.InvT-loop
 Inv-loop word pile₀ s0₀ s1₀ used height u₀ h₀ i₀ pile s0 s1 u h i = (i ≤ length word) × (length s0 ≡ length s0₀) × (length s1 ≡ length s1₀)
-    × ((D : Pair) (a0 a1 : List ℕ) → Midway D word a0 a1 pile₀ s0₀ s1₀ used height → Midway D (drop i word) a0 a1 pile s0 s1 u h)
+    × ((D : Pair) (S : State) (a0 a1 : List ℕ) → Midway D word S a0 a1 pile₀ s0₀ s1₀ used height → ((T : State) × Midway D (drop i word) T a0 a1 pile s0 s1 u h))
 
 abbrev μ-loop : tie.MeasureT-loop
 μ-loop word pile₀ s0₀ s1₀ used height u₀ h₀ i₀ pile s0 s1 u h i = length word - i
 
 loop-holds : tie.Need-loop-holds Inv-loop μ-loop
-loop-holds c = (search needs, refl, refl, λ D a0 a1 M. M)
+loop-holds c = (search needs, refl, refl, λ D S a0 a1 M. (S, M))
 
 mul-event : tie.Need-mul-event Inv-loop μ-loop
 mul-event c = search needs
@@ -31,8 +32,9 @@ shared-slice-read-event c = search needs
 event-requires : tie.Need-event-requires Inv-loop μ-loop
 event-requires c κs =
     let start = c .before .before .before .before .before .before .before .before .before in
-    let (D, a0, a1, M) = start .pre in
-    (D, _, a0, a1, rw (next-item (start .args .word .now) (c .before .before .before .before .before .loop .i) (omega arith)) at (c .before .before .before .before .before .loop .inv .3 D a0 a1 M))
+    let (D, S, a0, a1, M) = start .pre in
+    let (T, N) = c .before .before .before .before .before .loop .inv .3 D S a0 a1 M in
+    (D, T, _, a0, a1, rw (next-item (start .args .word .now) (c .before .before .before .before .before .loop .i) (omega arith)) at N)
 
 add-i : tie.Need-add-i Inv-loop μ-loop
 add-i c = search needs
@@ -45,7 +47,11 @@ loop-again c = (
   search needs,
   c .before .before .before .before .event .kept .1 .0 ∙ c .before .before .before .before .before .before .before .before .before .before .loop .inv .1,
   c .before .before .before .before .event .kept .1 .1 .0 ∙ c .before .before .before .before .before .before .before .before .before .before .loop .inv .2,
-  λ D a0 a1 M. c .before .before .before .before .event .ensures D _ a0 a1 (rw (next-item (c .before .before .before .before .before .before .before .before .before .before .before .before .before .before .args .word .now) (c .before .before .before .before .before .before .before .before .before .before .loop .i) (omega arith)) at (c .before .before .before .before .before .before .before .before .before .before .loop .inv .3 D a0 a1 M)),
+  λ D S a0 a1 M.
+      let (T, N) = c .before .before .before .before .before .before .before .before .before .before .loop .inv .3 D S a0 a1 M in
+      let w = c .before .before .before .before .before .before .before .before .before .before .before .before .before .before .args .word .now in
+      let i = c .before .before .before .before .before .before .before .before .before .before .loop .i in
+      (_, c .before .before .before .before .event .ensures D T _ a0 a1 (rw (next-item w i (omega arith)) at N)),
 )
 
 same-length : tie.Need-same-length Inv-loop μ-loop
@@ -55,7 +61,7 @@ same-length-2 : tie.Need-same-length-2 Inv-loop μ-loop
 same-length-2 c = c .before .loop .inv .2
 
 returns : tie.Need-returns Inv-loop μ-loop
-returns c = λ D a0 a1 M. midway-end _ _ _ _ _ _ _ _ (rw (drop-of-length-le (c .before .before .before .before .before .args .word .now) (c .loop-test .left)) at (c .before .loop .inv .3 D a0 a1 M))
+returns c = λ D S a0 a1 M. midway-end _ _ _ _ _ _ _ _ _ (rw (drop-of-length-le (c .before .before .before .before .before .args .word .now) (c .loop-test .left)) at (c .before .loop .inv .3 D S a0 a1 M .1))
 
 pub events-spec : {M : Type 1} → statement M
 events-spec =

@@ -21,7 +21,7 @@ part-events-end : tie.Need-part-events-end
 part-events-end c = search needs
 
 events-requires : tie.Need-events-requires
-events-requires c κs = let (n, S, l, l0, l1) = c .before .before .before .before .before .before .before .before .before .before .before .before .before .before .before .before .pre in (S .pair, _, _, c .before .before .before .before .before .before .before .before .begin .ensures (S .pair) _ (spelt-parts n _ _ S (S .spelt)) (spelt-room n _ _ _ _ S l l0 l1 (S .spelt)))
+events-requires c κs = let (n, S, l, l0, l1) = c .before .before .before .before .before .before .before .before .before .before .before .before .before .before .before .before .pre in (S .pair, _, _, _, c .before .before .before .before .before .before .before .before .begin .ensures (S .pair) _ (spelt-parts n _ _ S (S .spelt)) (spelt-room n _ _ _ _ S l l0 l1 (S .spelt)))
 
 same-length : tie.Need-same-length
 same-length c = search needs
@@ -30,7 +30,7 @@ same-length-2 : tie.Need-same-length-2
 same-length-2 c = search needs
 
 returns : tie.Need-returns
-returns c = λ D e. let (n, S, l, l0, l1) = c .before .before .before .before .before .before .before .before .before .before .before .before .before .before .before .before .before .before .before .before .before .pre in c .before .before .before .before .events .ensures D _ _ (c .before .before .before .before .before .before .before .before .before .before .before .before .before .begin .ensures D _ (spelt-parts n _ _ S e) (spelt-room n _ _ _ _ S l l0 l1 e))
+returns c = λ D e. let (n, S, l, l0, l1) = c .before .before .before .before .before .before .before .before .before .before .before .before .before .before .before .before .before .before .before .before .before .pre in c .before .before .before .before .events .ensures D _ _ _ (c .before .before .before .before .before .before .before .before .before .before .before .before .before .begin .ensures D _ (spelt-parts n _ _ S e) (spelt-room n _ _ _ _ S l l0 l1 e))
 
 pub write-diagram-spec : {M : Type 1} → statement M
 write-diagram-spec =

@@ -3,7 +3,8 @@ use native.Mathlib.Omega.{arith}
 use Rattle.listing.specs.declared.Listing.the-variants.{Rows, Refused}
 use Rattle.layout.specs.Layout.{run-numbers}
 use Rattle.layout.proofs.Rows.{run-again}
-use Rattle.kaldvemir.proofs.Blocks.{marked-rows-fit, fitting-numbers}
+use Rattle.kaldvemir.proofs.Blocks.{rows-fit, fitting-numbers}
+use Rattle.listing.proofs.Whole.{marked-lists}
 use borrow.Author.Needs.{needs}
 use Rattle.kaldvemir.proofs.runs.kaldvemir_list_marked.Statement.{statement}
 use Rattle.kaldvemir.proofs.runs.kaldvemir_list_marked.Tie as tie
@@ -31,11 +32,11 @@ enum-known-answer-2 c = search needs
 
 -- src/runs.rt:128:27
 cast-put-back : tie.Need-cast-put-back
-cast-put-back c = let f = marked-rows-fit (c .before .before .before .before .before .before .before .before .before .before .before .before .before .before .before .before .before .before .before .before .before .before .before .before .before .before .before .before .before .before .args .run .now) _ _ (c .before .before .before .before .before .before .before .before .before .before .before .before .before .before .before .before .before .list-marked .result .run) _ _ _ _ _ _ _ _ _ _ (rw (c .before .before .before .answer2 .given .1) at (rw (c .before .before .before .before .before .before .before .before .before .before .before .before .before .before .before .before .before .before .before .before .before .before .before .held .ensures .0) at (c .before .before .before .before .before .before .before .before .before .before .before .before .before .before .before .before .before .list-marked .ensures))) in record { fits = omega (arith, f .stage-small) }
+cast-put-back c = let f = rows-fit (c .before .before .before .before .before .before .before .before .before .before .before .before .before .before .before .before .before .before .before .before .before .before .before .before .before .before .before .before .before .before .args .run .now) _ _ (c .before .before .before .before .before .before .before .before .before .before .before .before .before .before .before .before .before .list-marked .result .run) _ _ _ _ _ _ _ _ (marked-lists _ _ _ _ _ _ _ _ _ _ _ _ _ _ (rw (c .before .before .before .answer2 .given .1) at (rw (c .before .before .before .before .before .before .before .before .before .before .before .before .before .before .before .before .before .before .before .before .before .before .before .held .ensures .0) at (c .before .before .before .before .before .before .before .before .before .before .before .before .before .before .before .before .before .list-marked .ensures)))) in record { fits = omega (arith, f .stage-small) }
 
 -- src/runs.rt:128:46
 cast-put-back-2 : tie.Need-cast-put-back-2
-cast-put-back-2 c = let f = marked-rows-fit (c .before .before .before .before .before .before .before .before .before .before .before .before .before .before .before .before .before .before .before .before .before .before .before .before .before .before .before .before .before .before .before .args .run .now) _ _ (c .before .before .before .before .before .before .before .before .before .before .before .before .before .before .before .before .before .before .list-marked .result .run) _ _ _ _ _ _ _ _ _ _ (rw (c .before .before .before .before .answer2 .given .1) at (rw (c .before .before .before .before .before .before .before .before .before .before .before .before .before .before .before .before .before .before .before .before .before .before .before .before .held .ensures .0) at (c .before .before .before .before .before .before .before .before .before .before .before .before .before .before .before .before .before .before .list-marked .ensures))) in record { fits = omega (arith, f .length-small) }
+cast-put-back-2 c = let f = rows-fit (c .before .before .before .before .before .before .before .before .before .before .before .before .before .before .before .before .before .before .before .before .before .before .before .before .before .before .before .before .before .before .before .args .run .now) _ _ (c .before .before .before .before .before .before .before .before .before .before .before .before .before .before .before .before .before .before .list-marked .result .run) _ _ _ _ _ _ _ _ (marked-lists _ _ _ _ _ _ _ _ _ _ _ _ _ _ (rw (c .before .before .before .before .answer2 .given .1) at (rw (c .before .before .before .before .before .before .before .before .before .before .before .before .before .before .before .before .before .before .before .before .before .before .before .before .held .ensures .0) at (c .before .before .before .before .before .before .before .before .before .before .before .before .before .before .before .before .before .before .list-marked .ensures)))) in record { fits = omega (arith, f .length-small) }
 
 -- src/runs.rt:128:13
 put-back-requires : tie.Need-put-back-requires
@@ -92,7 +93,7 @@ same-length-10 c = search needs
 returns-2 : tie.Need-returns-2
 returns-2 c =
     let s = rw (c .before .before .before .before .before .answer2 .given .1) at (rw (c .before .before .before .before .before .before .before .before .before .before .before .before .before .before .before .before .before .before .before .before .before .before .before .before .before .held .ensures .0) at (c .before .before .before .before .before .before .before .before .before .before .before .before .before .before .before .before .before .before .before .list-marked .ensures)) in
-    let f = marked-rows-fit (c .before .before .before .before .before .before .before .before .before .before .before .before .before .before .before .before .before .before .before .before .before .before .before .before .before .before .before .before .before .before .before .before .args .run .now) _ _ (c .before .before .before .before .before .before .before .before .before .before .before .before .before .before .before .before .before .before .before .list-marked .result .run) _ _ _ _ _ _ _ _ _ _ s in
+    let f = rows-fit (c .before .before .before .before .before .before .before .before .before .before .before .before .before .before .before .before .before .before .before .before .before .before .before .before .before .before .before .before .before .before .before .before .args .run .now) _ _ (c .before .before .before .before .before .before .before .before .before .before .before .before .before .before .before .before .before .before .before .list-marked .result .run) _ _ _ _ _ _ _ _ (marked-lists _ _ _ _ _ _ _ _ _ _ _ _ _ _ s) in
     (Rows (c .before .before .before .before .before .answer2 .given .0 .0), c .before .before .before .before .before .before .before .before .before .before .before .before .before .before .before .before .before .before .before .list-marked .result .run, s, refl, refl, c .put-back .ensures ∙ fitting-numbers (c .before .before .before .before .before .before .before .before .before .before .before .before .before .before .before .before .before .before .before .before .before .before .before .before .before .before .before .before .before .before .before .before .args .run .now) (c .before .before .before .before .before .before .before .before .before .before .before .before .before .before .before .before .before .before .before .list-marked .result .run) f)
 
 pub kaldvemir-list-marked-spec : {M : Type 1} → statement M

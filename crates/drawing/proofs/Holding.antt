@@ -1,0 +1,50 @@
+-- What the scratch lists hold, from what holds of the state.
+use mathlib.Core.Path.{_≡_, refl, sym, ap, _∙_}
+use mathlib.Core.Option.{some}
+use mathlib.Core.List.{List, [], _∷_, _++_}
+use Prim.Native.Nat.{ℕ, zero, suc, _+_, _-_, _≤_, _<_}
+use native.Mathlib.Omega.{arith}
+use lib.ListN.{length, getD, drop}
+use Rattle.lists.specs.Lists.{Has}
+use Rattle.lists.specs.Ranges.{Edge, down}
+use Rattle.lists.proofs.Lists.{pigeons}
+use Rattle.lists.proofs.Ranges.{has-down, length-down}
+use Rattle.words.specs.Word.{Pair}
+use Rattle.words.specs.Outputs.{over}
+use Rattle.words.proofs.Growing as growing
+use Rattle.words.proofs.Shape.{grows}
+use Rattle.writing.specs.States.{State}
+use Rattle.writing.specs.Midway.{Piled, Holds}
+use Rattle.writing.proofs.Lists.{over-length}
+use Rattle.writing.proofs.States.{Goes}
+use Rattle.drawing.proofs.Lists.{all-of, begins}
+
+-- there are no more labels pending than given
+pub low : (st s0 s1 : List ℕ) → growing.State st s0 s1 → length st ≤ length s0
+low st s0 s1 s = let i = pigeons st (down (length s0)) (s .apart) (λ x h. has-down (length s0) x (s .within x h)) in let j = length-down (length s0) in omega arith
+
+pub holds-of : (st s0 s1 a0 a1 pile b0 b1 : List ℕ) (used : ℕ) → growing.State st s0 s1 → length pile ≡ 64 → Piled pile st → used ≡ length s0 → b0 ≡ over s0 a0 → b1 ≡ over s1 a1
+    → Holds st s0 s1 a0 a1 pile b0 b1 used
+holds-of st s0 s1 a0 a1 pile b0 b1 used s l p u e f = record {
+  long = l;
+  piled = p;
+  used-is = u;
+  even = s .even ∙ sym u;
+  within = all-of (Edge used) st (λ x h. rw u (s .within x h));
+  low = let i = low st s0 s1 s in omega arith;
+  s0-is = e;
+  s1-is = f;
+}
+
+-- the lists that are held are lists like any other that begins so
+pub holds-own : (st s0 s1 a0 a1 pile b0 b1 : List ℕ) (used : ℕ) → Holds st s0 s1 a0 a1 pile b0 b1 used → Holds st s0 s1 b0 b1 pile b0 b1 used
+holds-own st s0 s1 a0 a1 pile b0 b1 used H = record {
+  long = H .long;
+  piled = H .piled;
+  used-is = H .used-is;
+  even = H .even;
+  within = H .within;
+  low = H .low;
+  s0-is = begins s0 (drop (length s0) a0) b0 (H .s0-is);
+  s1-is = begins s1 (drop (length s1) a1) b1 (H .s1-is);
+}

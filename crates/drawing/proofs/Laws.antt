@@ -1,0 +1,310 @@
+-- Laws of drawings: an item more, an item less, and a drawing of a whole word.
+use mathlib.Core.Path.{_≡_, refl, sym, ap, _∙_}
+use mathlib.Core.Logic.{_≢_, _⊎_, inl, inr}
+use mathlib.Core.Option.{some}
+use mathlib.Core.List.{List, [], _∷_, _++_, append-assoc, append-nil}
+use Prim.Native.Nat.{ℕ, zero, suc, _+_, _-_, _≤_, _<_}
+use native.Mathlib.Numerals.{add-one}
+use native.Mathlib.Omega.{arith}
+use lib.ListN.{length, getD, set, take, drop, length-set, length-append, take-append-drop}
+use lib.Seq.{take-suc, drop-cons, take-take, length-take-le, take-append-seam, take-at, getD-set-same, getD-set-other}
+use Rattle.lists.specs.Lists.{at, put, cut}
+use Rattle.lists.specs.Ranges.{Edge}
+use Rattle.lists.proofs.Tests.{same?}
+use Rattle.lists.proofs.Lists.{length-cut, length-put, length-1, length-3}
+use Rattle.words.specs.Word.{Pair, spells, spell, Spells}
+use Rattle.words.specs.Outputs.{over}
+use Rattle.words.proofs.Growing.{none≢some, p-in}
+use Rattle.words.proofs.Growing as growing
+use Rattle.words.proofs.Shape.{grows, spells-word, word-length}
+use Rattle.writing.specs.States.{State, top, after, moved, opening, begun}
+use Rattle.writing.specs.Midway.{Room, Holds, Midway}
+use Rattle.writing.proofs.Lists.{over-length, next-item}
+use Rattle.writing.proofs.Laws.{pending-some, word-some}
+use Rattle.writing.proofs.Laws as laws
+use Rattle.writing.proofs.States.{Goes, Sound, popped-first, jump-deep, begun-good, begun-more, begun-one}
+use Rattle.drawing.specs.Drawn.{Listed, Long, Begins, Drawn, Unjumped, Shares}
+use Rattle.drawing.proofs.Holding.{low, holds-own}
+use Rattle.drawing.proofs.Undone.{undo-W, undo-F, undo-B, undo-J, partner}
+
+-- ---- a beginning of a word
+
+-- one item more
+pub take-more : (w : List ℕ) (i : ℕ) → i < length w → take (i + 1) w ≡ take i w ++ (getD w i 0 ∷ [])
+take-more w i l = rw add-one (take-suc w i 0 l)
+
+begun-next : (w : List ℕ) (i : ℕ) → 1 ≤ i → i < length w → begun (take (i + 1) w) ≡ moved (getD w i 0) (begun (take i w))
+begun-next w i a l = ap begun (take-more w i l) ∙ begun-more (take i w) (getD w i 0) (rw (length-take-le i w (omega arith)) a)
+
+pub listed-begins : (w : List ℕ) (i : ℕ) (L : Listed w) → 1 ≤ i → i ≤ length w → Begins (take i w) (drop i w) (L .2 .pair)
+listed-begins w i L a l = record {
+  some-item = rw (length-take-le i w l) a;
+  spelt = ap spell (take-append-drop i w) ∙ L .2 .spelt;
+  small = let z = L .2 .sized in let y = L .1 in omega arith;
+}
+
+-- a word is short, so each of its items has a place in the scratch lists
+pub place-low : (w : List ℕ) (i : ℕ) → Listed w → i < length w → i < 64
+place-low w i L l = let z = word-length (L .0) w (spells-word (L .0) w (L .2)) in let y = L .1 in omega arith
+
+-- ---- an item more
+
+room-of : (D : Pair) (s0 s1 : List ℕ) → length (D .black) ≤ 50 → length s0 ≡ 64 → length s1 ≡ 64 → Room D s0 s1
+room-of D s0 s1 l a b = record { small = l; room0 = omega arith; room1 = omega arith }
+
+-- the lists that a state is written to stay as long as they are
+same-long : (D : Pair) (w : List ℕ) (S : State) (a0 a1 pile b0 b1 : List ℕ) (used height : ℕ) → Midway D w S a0 a1 pile b0 b1 used height → (length b0 ≡ length a0) × (length b1 ≡ length a1)
+same-long D w S a0 a1 pile b0 b1 used height M =
+    let i = grows w (S .pending) (S .black) (S .white) D (M .goes) in
+    let R = M .room in
+    let u = M .holds .used-is in
+    let v = M .holds .even in
+    (ap length (M .holds .s0-is) ∙ over-length (S .black) a0 (omega arith), ap length (M .holds .s1-is) ∙ over-length (S .white) a1 (omega arith))
+
+module _ (w : List ℕ) (L : Listed w) where
+  abbrev D : Pair
+  D = L .2 .pair
+
+  drawn-made : (pile popped a0 a1 b0 b1 : List ℕ) (i used height : ℕ) → 1 ≤ i → i ≤ length w → Midway D (drop i w) (begun (take i w)) a0 a1 pile b0 b1 used height
+      → length a0 ≡ 64 → length a1 ≡ 64 → length popped ≡ 64 → ((j : ℕ) → 1 ≤ j → j < i → getD popped j 0 ≡ top (begun (take j w))) → Drawn (take i w) pile popped b0 b1 used height
+  drawn-made pile popped a0 a1 b0 b1 i used height a l M l0 l1 lp n =
+      let q = same-long D (drop i w) _ a0 a1 pile b0 b1 used height M in
+      record {
+        rest = drop i w;
+        diagram = D;
+        begins = listed-begins w i L a l;
+        long = record { pile-long = M .holds .long; popped-long = lp; s0-long = q .0 ∙ l0; s1-long = q .1 ∙ l1 };
+        holds = holds-own _ _ _ a0 a1 pile b0 b1 used (M .holds);
+        height-is = M .height-is;
+        noted = λ j b m. let k : j < i = rw (length-take-le i w l) at m in rw (take-take j i w (omega arith)) (n j b k);
+      }
+
+  module _ (pile popped s0 s1 : List ℕ) (i used height : ℕ) (a : 1 ≤ i) (l : i < length w) (R : Drawn (take i w) pile popped s0 s1 used height) where
+    pub drawn-midway : Midway D (getD w i 0 ∷ drop (i + 1) w) (begun (take i w)) s0 s1 pile s0 s1 used height
+    drawn-midway =
+        let b = listed-begins w i L a (omega arith) in
+        rw (← next-item w i l) record {
+          goes = begun-good D (take i w) (drop i w) (b .some-item) (b .spelt) .0;
+          holds = R .holds;
+          height-is = R .height-is;
+          room = room-of D s0 s1 (b .small) (R .long .s0-long) (R .long .s1-long);
+        }
+
+    pub drawn-height : (1 ≤ height) × (height ≤ 50)
+    drawn-height = pending-some D _ _ s0 s1 pile s0 s1 used _ height drawn-midway
+
+    -- the label that the item pops is noted
+    pub drawn-added : (q t0 t1 : List ℕ) (u h : ℕ) → Midway D (drop (i + 1) w) (moved (getD w i 0) (begun (take i w))) s0 s1 q t0 t1 u h
+        → Drawn (take (i + 1) w) q (set popped i (getD pile (height - 1) 0)) t0 t1 u h
+    drawn-added q t0 t1 u h M =
+        drawn-made q _ s0 s1 t0 t1 (i + 1) u h (omega arith) (omega arith) (rw (begun-next w i a l) M) (R .long .s0-long) (R .long .s1-long) (length-set popped i _ ∙ R .long .popped-long) note
+      where
+        k : ℕ
+        k = getD pile (height - 1) 0
+
+        is-top : k ≡ top (begun (take i w))
+        is-top = sym (ap (λ (r : List ℕ). getD r 0 0) (laws.popped D _ _ s0 s1 pile s0 s1 used _ height (height - 1) drawn-midway refl .pending-is))
+
+        note : (j : ℕ) → 1 ≤ j → j < i + 1 → getD (set popped i k) j 0 ≡ top (begun (take j w))
+        note j b m = go (same? j i)
+          where
+            go : (j ≡ i) ⊎ (j ≢ i) → getD (set popped i k) j 0 ≡ top (begun (take j w))
+            go (inl e) = rw (e, getD-set-same popped i k 0 (let z = R .long .popped-long in let y = place-low w i L l in omega arith)) is-top
+            go (inr n) =
+                getD-set-other popped i j k 0 n
+                ∙ R .noted j b (rw (length-take-le i w (omega arith)) (omega arith))
+                ∙ rw (take-take j i w (omega arith))
+
+  -- the first item
+  pub drawn-begun : (pile popped s0 s1 q t0 t1 : List ℕ) (u h : ℕ) → 1 ≤ length w → Long pile popped s0 s1 → Midway D (drop 1 w) (opening (getD w 0 0)) s0 s1 q t0 t1 u h
+      → Drawn (take 1 w) q popped t0 t1 u h
+  drawn-begun pile popped s0 s1 q t0 t1 u h l Lg M =
+      drawn-made q popped s0 s1 t0 t1 1 u h (omega arith) l (rw (take-more w 0 l, begun-one) M) (Lg .s0-long) (Lg .s1-long) (Lg .popped-long) (λ j a b. absurd (omega arith))
+
+  pub listed-some : 1 ≤ length w
+  listed-some = word-some (L .0) w (L .2)
+
+  -- what is there to begin the word with
+  pub first-spelt : spell (getD w 0 0 ∷ drop 1 w) ≡ some D
+  first-spelt = ap spell (sym (next-item w 0 listed-some)) ∙ L .2 .spelt
+
+  pub first-room : (pile popped s0 s1 : List ℕ) → Long pile popped s0 s1 → Room D s0 s1
+  first-room pile popped s0 s1 Lg = room-of D s0 s1 (listed-begins w 1 L (omega arith) listed-some .small) (Lg .s0-long) (Lg .s1-long)
+
+-- ---- an item less
+
+-- the labels pending below the top after p
+abbrev below : List ℕ → List ℕ
+below p = cut 0 (begun p .pending)
+
+abbrev left : List ℕ → ℕ → ℕ → State
+left p x k = after x k (below p) (begun p .black) (begun p .white)
+
+-- the drawing of p and the item x, seen from the state that x found: k is the label it popped
+pub record Last (p : List ℕ) (x : ℕ) (pile popped s0 s1 : List ℕ) (used h k : ℕ) : Type 0 where
+  pub rest : List ℕ
+  pub diagram : Pair
+  pub begins : Begins p (x ∷ rest) diagram
+  pub goes : Goes diagram (x ∷ rest) (begun p)
+  pub sound : growing.State (k ∷ below p) (begun p .black) (begun p .white)
+  pub pending-is : begun p .pending ≡ k ∷ below p
+  pub long : Long pile popped s0 s1
+  pub holds : Holds (left p x k .pending) (left p x k .black) (left p x k .white) s0 s1 pile s0 s1 used
+  pub height-is : h ≡ length (left p x k .pending)
+  pub noted : (i : ℕ) → 1 ≤ i → i < length p → getD popped i 0 ≡ top (begun (take i p))
+
+pub last : (w pile popped s0 s1 : List ℕ) (i used h : ℕ) → 1 ≤ i → i < length w → Drawn (take (i + 1) w) pile popped s0 s1 used h
+    → Last (take i w) (getD w i 0) pile popped s0 s1 used h (getD popped i 0)
+last w pile popped s0 s1 i used h a l R = rw is-top record {
+  rest = R .rest;
+  diagram = R .diagram;
+  begins = before;
+  goes = good .0;
+  sound = rw (← first) (good .1);
+  pending-is = first;
+  long = R .long;
+  holds = rw (begun-next w i a l) at (R .holds);
+  height-is = rw (begun-next w i a l) at (R .height-is);
+  noted = λ j b m.
+      let z : j < i = rw (length-take-le i w (omega arith)) at m in
+      R .noted j b (rw (length-take-le (i + 1) w (omega arith)) (omega arith)) ∙ rw (take-take j (i + 1) w (omega arith), take-take j i w (omega arith));
+}
+  where
+    is-top : getD popped i 0 ≡ top (begun (take i w))
+    is-top = R .noted i a (rw (length-take-le (i + 1) w (omega arith)) (omega arith)) ∙ rw (take-take i (i + 1) w (omega arith))
+
+    spelt : spell (take i w ++ (getD w i 0 ∷ R .rest)) ≡ some (R .diagram)
+    spelt = rw (take-more w i l, append-assoc) at (R .begins .spelt)
+
+    before : Begins (take i w) (getD w i 0 ∷ R .rest) (R .diagram)
+    before = record { some-item = rw (length-take-le i w (omega arith)) a; spelt = spelt; small = R .begins .small }
+
+    good : Goes (R .diagram) (getD w i 0 ∷ R .rest) (begun (take i w)) × Sound (begun (take i w))
+    good = begun-good (R .diagram) (take i w) (getD w i 0 ∷ R .rest) (before .some-item) spelt
+
+    first : begun (take i w) .pending ≡ top (begun (take i w)) ∷ below (take i w)
+    first = popped-first (R .diagram) (getD w i 0) (R .rest) (begun (take i w)) (good .0)
+
+-- an item of a drawing has a place in the scratch lists
+pub last-place : (w pile popped s0 s1 : List ℕ) (i used h : ℕ) → i < length w → Drawn (take (i + 1) w) pile popped s0 s1 used h → i < 64
+last-place w pile popped s0 s1 i used h l R =
+    let b = R .begins in
+    place-low (take (i + 1) w ++ R .rest) i (_, b .small, record { pair = R .diagram; spelt = b .spelt; sized = refl }) (simp (length-append, length-take-le (i + 1) w (omega arith)) (omega arith))
+
+module _ (p pile popped s0 s1 : List ℕ) (used h k : ℕ) where
+  pub record Few : Type 0 where
+    pub k-in : Edge 50 k
+    pub lower : length (below p) < length (begun p .black)
+    pub small : length (begun p .black) ≤ 50
+
+  few : (x : ℕ) → Last p x pile popped s0 s1 used h k → Few
+  few x Z =
+      let i = grows (x ∷ Z .rest) (begun p .pending) (begun p .black) (begun p .white) (Z .diagram) (Z .goes) in
+      let j = Z .begins .small in
+      let e = Z .sound .within k (inl refl) in
+      record { k-in = omega arith; lower = low (k ∷ below p) (begun p .black) (begun p .white) (Z .sound); small = omega arith }
+
+  remade : (x : ℕ) → Last p x pile popped s0 s1 used h k → (q t : List ℕ) (u g : ℕ) → Holds (k ∷ below p) (begun p .black) (begun p .white) s0 t q s0 t u → length t ≡ 64 → g ≡ suc (length (below p)) → Drawn p q popped s0 t u g
+  remade x Z q t u g H l e = record {
+    rest = x ∷ Z .rest;
+    diagram = Z .diagram;
+    begins = Z .begins;
+    long = record { pile-long = H .long; popped-long = Z .long .popped-long; s0-long = Z .long .s0-long; s1-long = l };
+    holds = rw (Z .pending-is) H;
+    height-is = e ∙ sym (ap length (Z .pending-is));
+    noted = Z .noted;
+  }
+
+  -- ---- W, F, B and Jd
+
+  pub last-label : (x : ℕ) → Last p x pile popped s0 s1 used h k → Edge 50 k
+  last-label x Z = few x Z .k-in
+
+  module _ (Z : Last p 0 pile popped s0 s1 used h k) where
+    pub room-W : h < 50
+    unfolding after
+    room-W = let f = few 0 Z in let e = Z .height-is in omega arith
+
+    pub drawn-W : Drawn p (set pile h k) popped s0 s1 used (h + 1)
+    unfolding after
+    drawn-W = let i = room-W in let e = Z .height-is in
+        remade 0 Z _ _ _ _ (undo-W k (below p) _ _ (Z .sound) s0 s1 pile used h (Z .holds) (Z .height-is) (omega arith)) (Z .long .s1-long) (omega arith)
+
+  module _ (Z : Last p 1 pile popped s0 s1 used h k) where
+    pub room-F : (2 ≤ h) × (h < 64) × (3 ≤ used)
+    unfolding after
+    room-F =
+        let f = few 1 Z in
+        let e = Z .height-is in
+        let u = Z .holds .used-is ∙ length-3 (begun p .black) _ _ _ in
+        (omega arith, omega arith, omega arith)
+
+    pub drawn-F : Drawn p (set pile (h - 2) k) popped s0 (set s1 (k - 1) k) (used - 3) (h - 1)
+    unfolding after
+    drawn-F = let i = room-F in let e = Z .height-is in
+        remade 1 Z _ _ _ _ (undo-F k (below p) _ _ (Z .sound) s0 s1 pile used h (Z .holds) (Z .height-is) (i .1)) (length-set s1 (k - 1) k ∙ Z .long .s1-long) (omega arith)
+
+  module _ (Z : Last p 2 pile popped s0 s1 used h k) where
+    pub room-B : (h < 50) × (1 ≤ used)
+    unfolding after
+    room-B =
+        let f = few 2 Z in
+        let e = Z .height-is in
+        let u = Z .holds .used-is ∙ length-1 (begun p .black) _ in
+        (omega arith, omega arith)
+
+    pub drawn-B : Drawn p (set pile h k) popped s0 (set s1 (k - 1) k) (used - 1) (h + 1)
+    unfolding after
+    drawn-B = let i = room-B in let e = Z .height-is in
+        remade 2 Z _ _ _ _ (undo-B k (below p) _ _ (Z .sound) s0 s1 pile used h (Z .holds) (Z .height-is) (omega arith)) (length-set s1 (k - 1) k ∙ Z .long .s1-long) (omega arith)
+
+  module _ (d : ℕ) (Z : Last p (suc (suc (suc d))) pile popped s0 s1 used h k) where
+    deep : d < length (below p)
+    deep = jump-deep (Z .diagram) d (Z .rest) (begun p) (Z .goes)
+
+    high : suc h ≡ length (below p)
+    unfolding after
+    high = ap suc (Z .height-is) ∙ length-cut d (below p) deep
+
+    joined-to : at s1 k ≡ getD (below p) d 0
+    unfolding after
+    joined-to = partner k (below p) _ _ (Z .sound) s0 s1 pile used h d deep (Z .holds) high
+
+    pub room-J : (d ≤ h) × (h < 63) × (length pile ≡ 64) × (length s1 ≡ 64) × Edge 64 k × Edge 64 (at s1 k)
+    room-J =
+        let f = few _ Z in
+        let i = deep in
+        let e = high in
+        let j = p-in k (below p) _ _ (Z .sound) d deep in
+        (omega arith, omega arith, Z .long .pile-long, Z .long .s1-long, let z = f .k-in in omega arith, rw joined-to (omega arith))
+
+    pub drawn-J : (q t : List ℕ) → Unjumped pile q s1 t k d h → Drawn p q popped s0 t used (h + 2)
+    unfolding after
+    drawn-J q t U =
+        let i = room-J in
+        let e = high in
+        remade _ Z _ _ _ _ (undo-J k (below p) _ _ (Z .sound) s0 s1 pile used h d deep (Z .holds) high q t (i .1) U) (ap length (U .parted) ∙ simp length-put (Z .long .s1-long)) (omega arith)
+
+-- ---- what is shared
+
+pub shares-some : (old new pile popped s0 s1 : List ℕ) (shared used height : ℕ) → Shares old new shared pile popped s0 s1 used height → (shared ≡ 0 → ⊥)
+    → (1 ≤ shared) × (shared ≤ length old) × (shared ≤ length new) × (take shared old ≡ take shared new) × Drawn old pile popped s0 s1 used height
+shares-some old new pile popped s0 s1 shared used height (inl e) n = absurd (n e)
+shares-some old new pile popped s0 s1 shared used height (inr h) n = h
+
+-- ---- a whole word
+
+pub drawn-whole : (w pile popped s0 s1 : List ℕ) (used height : ℕ) → Drawn w pile popped s0 s1 used height → (D : Pair) → spell w ≡ some D
+    → (take (length (D .black)) s0 ≡ D .black) × (take (length (D .black)) s1 ≡ D .white)
+unfolding spells
+drawn-whole w pile popped s0 s1 used height R D e = go (begun w .pending) (begun-good D w [] (R .begins .some-item) (ap spell (append-nil w) ∙ e) .0)
+  where
+    H : Holds (begun w .pending) (begun w .black) (begun w .white) s0 s1 pile s0 s1 used
+    H = R .holds
+
+    go : (st : List ℕ) → spells [] st (begun w .black) (begun w .white) ≡ some D → (take (length (D .black)) s0 ≡ D .black) × (take (length (D .black)) s1 ≡ D .white)
+    go [] g =
+        let x : D .black ≡ begun w .black = cc in
+        let y : D .white ≡ begun w .white = cc in
+        (rw x (ap (take (length (begun w .black))) (H .s0-is) ∙ take-append-seam (begun w .black) _), rw (x, y) (ap (take (length (begun w .black))) (H .s1-is) ∙ take-at (begun w .white) _ _ (H .even ∙ H .used-is)))
+    go (k ∷ r) g = absurd (none≢some D g)

@@ -1,0 +1,49 @@
+-- `redraw` begins the word anew, or shortens the drawing to what is shared; then it extends it to the new word.
+use borrow.Author.Needs.{needs}
+use native.Mathlib.Omega.{arith}
+use lib.ListN.{drop}
+use Rattle.drawing.proofs.Laws.{listed-some, first-spelt, first-room, drawn-begun, shares-some}
+use Rattle.drawing.proofs.redraw.Statement.{statement}
+use Rattle.drawing.proofs.redraw.Tie as tie
+
+shared-slice-read-begin : tie.Need-shared-slice-read-begin
+shared-slice-read-begin c = listed-some _ (c .before .before .before .before .before .before .before .pre .1 .0)
+
+begin-requires : tie.Need-begin-requires
+begin-requires c κs = let pre = c .before .before .before .before .before .before .before .pre in let Lg = pre .0 in let L = pre .1 .0 in (Lg .pile-long, (_, _, first-spelt _ L, first-room _ L _ _ _ _ Lg))
+
+extend-requires : tie.Need-extend-requires
+extend-requires c κs =
+    let pre = c .before .before .before .before .before .before .before .before .before .before .before .before .pre in let Lg = pre .0 in let L = pre .1 .0 in
+    let l = listed-some _ L in
+    (omega arith, l, L, drawn-begun _ L _ _ _ _ _ _ _ _ _ l Lg (c .before .before .before .before .begin .ensures _ _ (first-spelt _ L) (first-room _ L _ _ _ _ Lg)))
+
+returns : tie.Need-returns
+returns c = search needs
+
+shorten-requires : tie.Need-shorten-requires
+shorten-requires c κs =
+    let pre = c .before .before .before .before .before .before .pre in let Lg = pre .0 in let L = pre .1 .0 in
+    let (a, l, m, e, R) = shares-some _ _ _ _ _ _ _ _ _ (pre .1 .1) (c .before .before .before .if1 .left) in
+    (a, l, (_, R))
+
+extend-requires-2 : tie.Need-extend-requires-2
+extend-requires-2 c κs =
+    let pre = c .before .before .before .before .before .before .before .before .before .before .before .pre in let Lg = pre .0 in let L = pre .1 .0 in
+    let (a, l, m, e, R) = shares-some _ _ _ _ _ _ _ _ _ (pre .1 .1) (c .before .before .before .before .before .before .before .before .if1 .left) in
+    (a, m, L, rw e at (c .before .before .before .before .shorten .ensures _ R))
+
+returns-2 : tie.Need-returns-2
+returns-2 c = search needs
+
+pub redraw-spec : {M : Type 1} → statement M
+redraw-spec =
+    tie.close
+    (tie.spec
+    shared-slice-read-begin
+    begin-requires
+    extend-requires
+    returns
+    shorten-requires
+    extend-requires-2
+    returns-2)
