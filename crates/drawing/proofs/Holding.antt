@@ -1,22 +1,15 @@
 -- What the scratch lists hold, from what holds of the state.
-use mathlib.Core.Path.{_≡_, refl, sym, ap, _∙_}
-use mathlib.Core.Option.{some}
-use mathlib.Core.List.{List, [], _∷_, _++_}
-use Prim.Native.Nat.{ℕ, zero, suc, _+_, _-_, _≤_, _<_}
+use mathlib.Core.Path.{_≡_, sym, _∙_}
+use mathlib.Core.List.{List}
+use Prim.Native.Nat.{ℕ, _≤_}
 use native.Mathlib.Omega.{arith}
-use lib.ListN.{length, getD, drop}
-use Rattle.lists.specs.Lists.{Has}
+use lib.ListN.{length, drop}
 use Rattle.lists.specs.Ranges.{Edge, down}
 use Rattle.lists.proofs.Lists.{pigeons}
 use Rattle.lists.proofs.Ranges.{has-down, length-down}
-use Rattle.words.specs.Word.{Pair}
 use Rattle.words.specs.Outputs.{over}
 use Rattle.words.proofs.Growing as growing
-use Rattle.words.proofs.Shape.{grows}
-use Rattle.writing.specs.States.{State}
 use Rattle.writing.specs.Midway.{Piled, Holds}
-use Rattle.writing.proofs.Lists.{over-length}
-use Rattle.writing.proofs.States.{Goes}
 use Rattle.drawing.proofs.Lists.{all-of, begins}
 
 -- there are no more labels pending than given

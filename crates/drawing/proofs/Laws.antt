@@ -3,17 +3,16 @@ use mathlib.Core.Path.{_≡_, refl, sym, ap, _∙_}
 use mathlib.Core.Logic.{_≢_, _⊎_, inl, inr}
 use mathlib.Core.Option.{some}
 use mathlib.Core.List.{List, [], _∷_, _++_, append-assoc, append-nil}
-use Prim.Native.Nat.{ℕ, zero, suc, _+_, _-_, _≤_, _<_}
+use Prim.Native.Nat.{ℕ, suc, _+_, _-_, _≤_, _<_}
 use native.Mathlib.Numerals.{add-one}
 use native.Mathlib.Omega.{arith}
 use lib.ListN.{length, getD, set, take, drop, length-set, length-append, take-append-drop}
-use lib.Seq.{take-suc, drop-cons, take-take, length-take-le, take-append-seam, take-at, getD-set-same, getD-set-other}
-use Rattle.lists.specs.Lists.{at, put, cut}
+use lib.Seq.{take-suc, take-take, length-take-le, take-append-seam, take-at, getD-set-same, getD-set-other}
+use Rattle.lists.specs.Lists.{at, cut}
 use Rattle.lists.specs.Ranges.{Edge}
 use Rattle.lists.proofs.Tests.{same?}
 use Rattle.lists.proofs.Lists.{length-cut, length-put, length-1, length-3}
-use Rattle.words.specs.Word.{Pair, spells, spell, Spells}
-use Rattle.words.specs.Outputs.{over}
+use Rattle.words.specs.Word.{Pair, spells, spell}
 use Rattle.words.proofs.Growing.{none≢some, p-in}
 use Rattle.words.proofs.Growing as growing
 use Rattle.words.proofs.Shape.{grows, spells-word, word-length}
@@ -53,7 +52,8 @@ room-of : (D : Pair) (s0 s1 : List ℕ) → length (D .black) ≤ 50 → length 
 room-of D s0 s1 l a b = record { small = l; room0 = omega arith; room1 = omega arith }
 
 -- the lists that a state is written to stay as long as they are
-same-long : (D : Pair) (w : List ℕ) (S : State) (a0 a1 pile b0 b1 : List ℕ) (used height : ℕ) → Midway D w S a0 a1 pile b0 b1 used height → (length b0 ≡ length a0) × (length b1 ≡ length a1)
+same-long : (D : Pair) (w : List ℕ) (S : State) (a0 a1 pile b0 b1 : List ℕ) (used height : ℕ) → Midway D w S a0 a1 pile b0 b1 used height
+    → (length b0 ≡ length a0) × (length b1 ≡ length a1)
 same-long D w S a0 a1 pile b0 b1 used height M =
     let i = grows w (S .pending) (S .black) (S .white) D (M .goes) in
     let R = M .room in
@@ -97,7 +97,8 @@ module _ (w : List ℕ) (L : Listed w) where
     pub drawn-added : (q t0 t1 : List ℕ) (u h : ℕ) → Midway D (drop (i + 1) w) (moved (getD w i 0) (begun (take i w))) s0 s1 q t0 t1 u h
         → Drawn (take (i + 1) w) q (set popped i (getD pile (height - 1) 0)) t0 t1 u h
     drawn-added q t0 t1 u h M =
-        drawn-made q _ s0 s1 t0 t1 (i + 1) u h (omega arith) (omega arith) (rw (begun-next w i a l) M) (R .long .s0-long) (R .long .s1-long) (length-set popped i _ ∙ R .long .popped-long) note
+        let Lg = R .long in
+        drawn-made q _ s0 s1 t0 t1 (i + 1) u h (omega arith) (omega arith) (rw (begun-next w i a l) M) (Lg .s0-long) (Lg .s1-long) (length-set popped i _ ∙ Lg .popped-long) note
       where
         k : ℕ
         k = getD pile (height - 1) 0
@@ -186,10 +187,11 @@ last w pile popped s0 s1 i used h a l R = rw is-top record {
     first = popped-first (R .diagram) (getD w i 0) (R .rest) (begun (take i w)) (good .0)
 
 -- an item of a drawing has a place in the scratch lists
-pub last-place : (w pile popped s0 s1 : List ℕ) (i used h : ℕ) → i < length w → Drawn (take (i + 1) w) pile popped s0 s1 used h → i < 64
+last-place : (w pile popped s0 s1 : List ℕ) (i used h : ℕ) → i < length w → Drawn (take (i + 1) w) pile popped s0 s1 used h → i < 64
 last-place w pile popped s0 s1 i used h l R =
     let b = R .begins in
-    place-low (take (i + 1) w ++ R .rest) i (_, b .small, record { pair = R .diagram; spelt = b .spelt; sized = refl }) (simp (length-append, length-take-le (i + 1) w (omega arith)) (omega arith))
+    place-low (take (i + 1) w ++ R .rest) i (_, b .small, record { pair = R .diagram; spelt = b .spelt; sized = refl })
+    (simp (length-append, length-take-le (i + 1) w (omega arith)) (omega arith))
 
 module _ (p pile popped s0 s1 : List ℕ) (used h k : ℕ) where
   pub record Few : Type 0 where
@@ -204,7 +206,8 @@ module _ (p pile popped s0 s1 : List ℕ) (used h k : ℕ) where
       let e = Z .sound .within k (inl refl) in
       record { k-in = omega arith; lower = low (k ∷ below p) (begun p .black) (begun p .white) (Z .sound); small = omega arith }
 
-  remade : (x : ℕ) → Last p x pile popped s0 s1 used h k → (q t : List ℕ) (u g : ℕ) → Holds (k ∷ below p) (begun p .black) (begun p .white) s0 t q s0 t u → length t ≡ 64 → g ≡ suc (length (below p)) → Drawn p q popped s0 t u g
+  remade : (x : ℕ) → Last p x pile popped s0 s1 used h k → (q t : List ℕ) (u g : ℕ) → Holds (k ∷ below p) (begun p .black) (begun p .white) s0 t q s0 t u
+      → length t ≡ 64 → g ≡ suc (length (below p)) → Drawn p q popped s0 t u g
   remade x Z q t u g H l e = record {
     rest = x ∷ Z .rest;
     diagram = Z .diagram;
@@ -217,11 +220,8 @@ module _ (p pile popped s0 s1 : List ℕ) (used h k : ℕ) where
 
   -- ---- W, F, B and Jd
 
-  pub last-label : (x : ℕ) → Last p x pile popped s0 s1 used h k → Edge 50 k
-  last-label x Z = few x Z .k-in
-
   module _ (Z : Last p 0 pile popped s0 s1 used h k) where
-    pub room-W : h < 50
+    room-W : h < 50
     unfolding after
     room-W = let f = few 0 Z in let e = Z .height-is in omega arith
 
@@ -231,7 +231,7 @@ module _ (p pile popped s0 s1 : List ℕ) (used h k : ℕ) where
         remade 0 Z _ _ _ _ (undo-W k (below p) _ _ (Z .sound) s0 s1 pile used h (Z .holds) (Z .height-is) (omega arith)) (Z .long .s1-long) (omega arith)
 
   module _ (Z : Last p 1 pile popped s0 s1 used h k) where
-    pub room-F : (2 ≤ h) × (h < 64) × (3 ≤ used)
+    room-F : (2 ≤ h) × (h < 64) × (3 ≤ used)
     unfolding after
     room-F =
         let f = few 1 Z in
@@ -245,7 +245,7 @@ module _ (p pile popped s0 s1 : List ℕ) (used h k : ℕ) where
         remade 1 Z _ _ _ _ (undo-F k (below p) _ _ (Z .sound) s0 s1 pile used h (Z .holds) (Z .height-is) (i .1)) (length-set s1 (k - 1) k ∙ Z .long .s1-long) (omega arith)
 
   module _ (Z : Last p 2 pile popped s0 s1 used h k) where
-    pub room-B : (h < 50) × (1 ≤ used)
+    room-B : (h < 50) × (1 ≤ used)
     unfolding after
     room-B =
         let f = few 2 Z in
@@ -270,7 +270,7 @@ module _ (p pile popped s0 s1 : List ℕ) (used h k : ℕ) where
     unfolding after
     joined-to = partner k (below p) _ _ (Z .sound) s0 s1 pile used h d deep (Z .holds) high
 
-    pub room-J : (d ≤ h) × (h < 63) × (length pile ≡ 64) × (length s1 ≡ 64) × Edge 64 k × Edge 64 (at s1 k)
+    room-J : (d ≤ h) × (h < 63) × (length pile ≡ 64) × (length s1 ≡ 64) × Edge 64 k × Edge 64 (at s1 k)
     room-J =
         let f = few _ Z in
         let i = deep in
@@ -283,7 +283,31 @@ module _ (p pile popped s0 s1 : List ℕ) (used h k : ℕ) where
     drawn-J q t U =
         let i = room-J in
         let e = high in
-        remade _ Z _ _ _ _ (undo-J k (below p) _ _ (Z .sound) s0 s1 pile used h d deep (Z .holds) high q t (i .1) U) (ap length (U .parted) ∙ simp length-put (Z .long .s1-long)) (omega arith)
+        remade _ Z _ _ _ _ (undo-J k (below p) _ _ (Z .sound) s0 s1 pile used h d deep (Z .holds) high q t (i .1) U)
+        (ap length (U .parted) ∙ simp length-put (Z .long .s1-long)) (omega arith)
+
+-- what is asked for to take an item back, and what the code may rely on then
+module _ (w pile popped s1 : List ℕ) (i used h : ℕ) (P : (1 ≤ i) × (i < length w) × ((s0 : List ℕ) × Drawn (take (i + 1) w) pile popped s0 s1 used h)) where
+  seen : Last (take i w) (getD w i 0) pile popped (P .2 .0) s1 used h (getD popped i 0)
+  seen = last w pile popped (P .2 .0) s1 i used h (P .0) (P .1) (P .2 .1)
+
+  pub known-place : i < 64
+  known-place = last-place w pile popped (P .2 .0) s1 i used h (P .1) (P .2 .1)
+
+  pub known-label : Edge 50 (getD popped i 0)
+  known-label = few _ _ _ _ _ _ _ _ _ seen .k-in
+
+  pub known-W : getD w i 0 ≡ 0 → h < 50
+  known-W e = room-W _ _ _ _ _ _ _ _ (rw e at seen)
+
+  pub known-F : getD w i 0 ≡ 1 → (2 ≤ h) × (h < 64) × (3 ≤ used)
+  known-F e = room-F _ _ _ _ _ _ _ _ (rw e at seen)
+
+  pub known-B : getD w i 0 ≡ 2 → (h < 50) × (1 ≤ used)
+  known-B e = room-B _ _ _ _ _ _ _ _ (rw e at seen)
+
+  pub known-J : (d : ℕ) → getD w i 0 ≡ suc (suc (suc d)) → (d ≤ h) × (h < 63) × (length pile ≡ 64) × (length s1 ≡ 64) × Edge 64 (getD popped i 0) × Edge 64 (at s1 (getD popped i 0))
+  known-J d e = room-J _ _ _ _ _ _ _ _ d (rw e at seen)
 
 -- ---- what is shared
 
@@ -305,6 +329,8 @@ drawn-whole w pile popped s0 s1 used height R D e = go (begun w .pending) (begun
     go : (st : List ℕ) → spells [] st (begun w .black) (begun w .white) ≡ some D → (take (length (D .black)) s0 ≡ D .black) × (take (length (D .black)) s1 ≡ D .white)
     go [] g =
         let x : D .black ≡ begun w .black = cc in
-        let y : D .white ≡ begun w .white = cc in
-        (rw x (ap (take (length (begun w .black))) (H .s0-is) ∙ take-append-seam (begun w .black) _), rw (x, y) (ap (take (length (begun w .black))) (H .s1-is) ∙ take-at (begun w .white) _ _ (H .even ∙ H .used-is)))
+        let y : D .white ≡ begun w .white = cc in (
+          rw x (ap (take (length (begun w .black))) (H .s0-is) ∙ take-append-seam (begun w .black) _),
+          rw (x, y) (ap (take (length (begun w .black))) (H .s1-is) ∙ take-at (begun w .white) _ _ (H .even ∙ H .used-is)),
+        )
     go (k ∷ r) g = absurd (none≢some D g)

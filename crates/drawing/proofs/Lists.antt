@@ -4,9 +4,8 @@ use mathlib.Core.Logic.{_≢_, _⊎_, inl, inr}
 use mathlib.Core.List.{List, [], _∷_, _++_, append-assoc}
 use Prim.Native.Nat.{ℕ, zero, suc, _+_, _-_, _≤_, _<_}
 use native.Mathlib.Nat.{not-suc-le-zero}
-use native.Mathlib.Numerals.{add-one}
 use native.Mathlib.Omega.{arith}
-use lib.ListN.{length, getD, set, take, drop, length-set}
+use lib.ListN.{length, getD, set, length-set}
 use lib.Seq.{drop-append-seam, set-append-left, set-getD, set-set, set-comm, getD-set-same, getD-set-other}
 use Rattle.lists.specs.Lists.{at, put, cut, Has, All}
 use Rattle.lists.specs.Ranges.{Edge}
@@ -62,7 +61,12 @@ module _ (s : List ℕ) (k w v : ℕ) (e : w ≡ k) (f : v ≡ getD s (w - 1) 0)
   partner-in = rw (f, r-is) j
 
   pub partner-parted : (r ≡ at s k) × (set (set s (v - 1) r) (w - 1) k ≡ put (put s r r) k k)
-  partner-parted = (r-is, ap (λ (x : ℕ). set (set s (x - 1) r) (w - 1) k) f ∙ ap (λ (y : ℕ). set (set s (r - 1) r) (y - 1) k) e ∙ rw (set-put s r r (rw r-is (j .0)), set-put (put s r r) k k (i .0)))
+  partner-parted = (
+    r-is,
+    ap (λ (x : ℕ). set (set s (x - 1) r) (w - 1) k) f
+        ∙ ap (λ (y : ℕ). set (set s (r - 1) r) (y - 1) k) e
+        ∙ rw (set-put s r r (rw r-is (j .0)), set-put (put s r r) k k (i .0)),
+  )
 
 -- ---- what a list begins with
 
@@ -74,7 +78,8 @@ begins-less s t u b e = begins s (t ++ u) b (e ∙ append-assoc s t u)
 
 -- the entry of k put back, and what was given after s
 pub begins-back : (s t u b : List ℕ) (k c : ℕ) → Edge (length s) k → at s k ≡ k → b ≡ (put s k c ++ t) ++ u → set b (k - 1) k ≡ over s (set b (k - 1) k)
-begins-back s t u b k c i e f = begins s (t ++ u) (set b (k - 1) k) (rw (set-put b k k (i .0), f, append-assoc, put-left (put s k c) (t ++ u) k k (rw length-put i), put-back s k c e))
+begins-back s t u b k c i e f = begins s (t ++ u) (set b (k - 1) k)
+    (rw (set-put b k k (i .0), f, append-assoc, put-left (put s k c) (t ++ u) k k (rw length-put i), put-back s k c e))
 
 pub begins-parted : (s u b : List ℕ) (k p : ℕ) → Edge (length s) k → Edge (length s) p → at s k ≡ k → at s p ≡ p → p ≢ k → b ≡ put (put s k p) p k ++ u
     → put (put b p p) k k ≡ over s (put (put b p p) k k)
@@ -88,7 +93,8 @@ all-of P [] k = tt
 all-of P (x ∷ l) k = (k x (inl refl), all-of P l (λ y h. k y (inr h)))
 
 -- q, with the label at `at` put in, is p
-pub piled-uncut : (p q r : List ℕ) (d at end : ℕ) → Shifted p q at end → d < length r → at + suc d ≡ length r → length r ≤ suc end → getD p at 0 ≡ getD r d 0 → Piled q (cut d r) → Piled p r
+pub piled-uncut : (p q r : List ℕ) (d at end : ℕ) → Shifted p q at end → d < length r → at + suc d ≡ length r → length r ≤ suc end → getD p at 0 ≡ getD r d 0
+    → Piled q (cut d r) → Piled p r
 piled-uncut p q [] d at end s l e m f h = absurd (not-suc-le-zero l)
 piled-uncut p q (k ∷ r) zero at end s l e m f h =
     let i : at ≡ length r = omega arith in

@@ -1,22 +1,20 @@
 -- An event taken back: from the state that it left, the pile and the lists hold the state before it again. One law per event.
-use mathlib.Core.Path.{_≡_, refl, sym, ap, _∙_}
-use mathlib.Core.Logic.{_≢_, inl, inr}
-use mathlib.Core.Option.{some}
+use mathlib.Core.Path.{_≡_, refl, ap, _∙_}
+use mathlib.Core.Logic.{inl, inr}
 use mathlib.Core.List.{List, [], _∷_, _++_}
-use Prim.Native.Nat.{ℕ, zero, suc, _+_, _-_, _≤_, _<_}
+use Prim.Native.Nat.{ℕ, suc, _+_, _-_, _<_}
 use native.Mathlib.Omega.{arith}
-use lib.ListN.{length, getD, set, drop, length-set}
+use lib.ListN.{length, getD, set, length-set}
 use Rattle.lists.specs.Lists.{at, put, cut}
 use Rattle.lists.specs.Ranges.{Edge}
-use Rattle.lists.proofs.Lists.{length-put, length-1, length-3, length-cut, at-left}
-use Rattle.words.specs.Outputs.{over}
+use Rattle.lists.proofs.Lists.{length-put, length-1, length-3, at-left}
 use Rattle.words.proofs.Growing.{p-has, p-k, p-in, J-k}
 use Rattle.words.proofs.Growing as growing
-use Rattle.writing.specs.Midway.{Piled, Shifted, Holds}
+use Rattle.writing.specs.Midway.{Holds}
 use Rattle.writing.proofs.Lists.{piled-push}
 use Rattle.drawing.specs.Drawn.{Unjumped}
 use Rattle.drawing.proofs.Lists.{begins-less, begins-back, begins-parted, piled-uncut}
-use Rattle.drawing.proofs.Holding.{low, holds-of}
+use Rattle.drawing.proofs.Holding.{holds-of}
 
 module _ (k : ℕ) (r s0 s1 : List ℕ) (s : growing.State (k ∷ r) s0 s1) (b0 b1 pile : List ℕ) (used h : ℕ) where
   abbrev c : ℕ
@@ -29,10 +27,16 @@ module _ (k : ℕ) (r s0 s1 : List ℕ) (s : growing.State (k ∷ r) s0 s1) (b0 
   k-own = s .fixed k (inl refl)
 
   pub undo-W : Holds r s0 s1 b0 b1 pile b0 b1 used → h ≡ length r → h < 64 → Holds (k ∷ r) s0 s1 b0 b1 (set pile h k) b0 b1 used
-  undo-W H e l = holds-of (k ∷ r) s0 s1 b0 b1 (set pile h k) b0 b1 used s (length-set pile h k ∙ H .long) (piled-push pile r h k e (let z = H .long in omega arith) (H .piled)) (H .used-is) (H .s0-is) (H .s1-is)
+  undo-W H e l =
+      holds-of (k ∷ r) s0 s1 b0 b1 _ b0 b1 used s
+      (length-set pile h k ∙ H .long)
+      (piled-push pile r h k e (let z = H .long in omega arith) (H .piled))
+      (H .used-is)
+      (H .s0-is)
+      (H .s1-is)
 
-  pub undo-F : Holds (suc (suc c) ∷ suc c ∷ r) (s0 ++ (suc c ∷ suc (suc c) ∷ c ∷ [])) (put s1 k c ++ (k ∷ suc c ∷ suc (suc c) ∷ [])) b0 b1 pile b0 b1 used → h ≡ suc (suc (length r)) → h < 64
-      → Holds (k ∷ r) s0 s1 b0 (set b1 (k - 1) k) (set pile (h - 2) k) b0 (set b1 (k - 1) k) (used - 3)
+  pub undo-F : Holds (suc (suc c) ∷ suc c ∷ r) (s0 ++ (suc c ∷ suc (suc c) ∷ c ∷ [])) (put s1 k c ++ (k ∷ suc c ∷ suc (suc c) ∷ [])) b0 b1 pile b0 b1 used
+      → h ≡ suc (suc (length r)) → h < 64 → Holds (k ∷ r) s0 s1 b0 (set b1 (k - 1) k) (set pile (h - 2) k) b0 (set b1 (k - 1) k) (used - 3)
   undo-F H e l =
       let u = H .used-is ∙ length-3 s0 (suc c) (suc (suc c)) c in
       holds-of (k ∷ r) s0 s1 b0 _ _ b0 _ (used - 3) s
@@ -68,7 +72,8 @@ module _ (k : ℕ) (r s0 s1 : List ℕ) (s : growing.State (k ∷ r) s0 s1) (b0 
         let y = H .long in
         rw (U .on-top, U .parted, partner) (holds-of (k ∷ r) s0 s1 b0 _ _ b0 _ used s
         (length-set (U .raised) (h + 1) k ∙ omega arith)
-        (piled-push (U .raised) r (h + 1) k (omega arith) (omega arith) (piled-uncut (U .raised) pile r d (h - d) h (U .shifted) l (omega arith) (omega arith) (U .back-in ∙ partner) (H .piled)))
+        (piled-push (U .raised) r (h + 1) k (omega arith) (omega arith)
+        (piled-uncut (U .raised) pile r d (h - d) h (U .shifted) l (omega arith) (omega arith) (U .back-in ∙ partner) (H .piled)))
         (H .used-is)
         (H .s0-is)
         (begins-parted s1 _ b1 k p k-in (rw (s .even) i) k-own (s .fixed p (inr (p-has k r s0 s1 s d l))) (p-k k r s0 s1 s d l) (H .s1-is)))

@@ -16,7 +16,7 @@ use lib.ListN.{length, getD, set, take}
 use Rattle.lists.specs.Lists.{at, put}
 use Rattle.words.specs.Word.{Pair, spell, Spells}
 use Rattle.writing.specs.Midway.{Shifted, Holds}
-use Rattle.writing.specs.States.{State, top, begun}
+use Rattle.writing.specs.States.{top, begun}
 
 abbrev pub Listed : List ℕ → Type 0
 Listed w = (n : ℕ) × (n ≤ 50) × Spells n w

@@ -133,7 +133,8 @@ fn add(
     s1: &mut [u16; 64],
     marks: Marks,
 ) -> Marks
-    requires { ⌜ (1 ≤ at) × (at < length (now word)) × Listed (now word) × Drawn (take at (now word)) (now pile) (now popped) (now s0) (now s1) (marks .used) (marks .height) ⌝ }
+    requires { ⌜ (1 ≤ at) × (at < length (now word)) × Listed (now word)
+        × Drawn (take at (now word)) (now pile) (now popped) (now s0) (now s1) (marks .used) (marks .height) ⌝ }
     ensures { λ r. ⌜ Drawn (take (at + 1) (now (word .entry))) (now (pile .exit)) (now (popped .exit)) (now (s0 .exit)) (now (s1 .exit)) (r .used) (r .height) ⌝ }
 {
     let h = marks.height;
@@ -152,7 +153,8 @@ fn extend(
     s1: &mut [u16; 64],
     marks: Marks,
 ) -> Marks
-    requires { ⌜ (1 ≤ from) × (from ≤ length (now word)) × Listed (now word) × Drawn (take from (now word)) (now pile) (now popped) (now s0) (now s1) (marks .used) (marks .height) ⌝ }
+    requires { ⌜ (1 ≤ from) × (from ≤ length (now word)) × Listed (now word)
+        × Drawn (take from (now word)) (now pile) (now popped) (now s0) (now s1) (marks .used) (marks .height) ⌝ }
     ensures { λ r. ⌜ Drawn (now (word .entry)) (now (pile .exit)) (now (popped .exit)) (now (s0 .exit)) (now (s1 .exit)) (r .used) (r .height) ⌝ }
 {
     let mut m = marks;

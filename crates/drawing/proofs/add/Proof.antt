@@ -1,6 +1,5 @@
 -- `add` notes the label on top and reads the item: from the state before it to the state after it.
 use borrow.Author.Needs.{needs}
-use mathlib.Core.Path.{_≡_}
 use native.Mathlib.Omega.{arith}
 use Rattle.drawing.proofs.Laws.{place-low, drawn-midway, drawn-height, drawn-added}
 use Rattle.drawing.proofs.add.Statement.{statement}
@@ -31,7 +30,9 @@ event-requires : tie.Need-event-requires
 event-requires c κs = let (a, l, L, R) = c .before .before .before .before .before .before .pre in (_, _, _, _, _, drawn-midway _ L _ _ _ _ _ _ _ a l R)
 
 returns : tie.Need-returns
-returns c = let (a, l, L, R) = c .before .before .before .before .before .before .before .pre in drawn-added _ L _ _ _ _ _ _ _ a l R _ _ _ _ _ (c .event .ensures _ _ _ _ _ (drawn-midway _ L _ _ _ _ _ _ _ a l R))
+returns c =
+    let (a, l, L, R) = c .before .before .before .before .before .before .before .pre in
+    drawn-added _ L _ _ _ _ _ _ _ a l R _ _ _ _ _ (c .event .ensures _ _ _ _ _ (drawn-midway _ L _ _ _ _ _ _ _ a l R))
 
 pub add-spec : {M : Type 1} → statement M
 add-spec =

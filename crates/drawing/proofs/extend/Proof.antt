@@ -1,5 +1,4 @@
 -- `extend` adds the items up to the word's end. The loop's invariant: the items before place i are drawn.
-use borrow.Author.Needs.{needs}
 use Prim.Native.Nat.{_-_, _≤_}
 use native.Mathlib.Omega.{arith}
 use lib.ListN.{length, take}
@@ -18,7 +17,10 @@ loop-holds : tie.Need-loop-holds Inv-loop μ-loop
 loop-holds c = let (a, l, L, R) = c .before .pre in (a, l, R)
 
 add-requires : tie.Need-add-requires Inv-loop μ-loop
-add-requires c κs = let (a, l, R) = c .before .before .before .before .before .loop .inv in let (x, y, L, z) = c .before .before .before .before .before .before .before .pre in (a, omega arith, L, R)
+add-requires c κs =
+    let (a, l, R) = c .before .before .before .before .before .loop .inv in
+    let (x, y, L, z) = c .before .before .before .before .before .before .before .pre in
+    (a, omega arith, L, R)
 
 add-i : tie.Need-add-i Inv-loop μ-loop
 add-i c = omega arith

@@ -21,13 +21,22 @@ wide-requires-2 : tie.Need-wide-requires-2
 wide-requires-2 c κs = search needs
 
 sub-j : tie.Need-sub-j
-sub-j c = let start = c .before .before .before in let i = partner-in _ _ _ _ (c .before .before .wide .ensures) (c .wide2 .ensures) (start .pre .1) (start .pre .2) in omega arith
+sub-j c =
+    let pre = c .before .before .before .pre in
+    let i = partner-in _ _ _ _ (c .before .before .wide .ensures) (c .wide2 .ensures) (pre .1) (pre .2) in
+    omega arith
 
 mul-s1 : tie.Need-mul-s1
-mul-s1 c = let start = c .before .before .before in let i = partner-in _ _ _ _ (c .before .before .wide .ensures) (c .wide2 .ensures) (start .pre .1) (start .pre .2) in omega arith
+mul-s1 c =
+    let pre = c .before .before .before .pre in
+    let i = partner-in _ _ _ _ (c .before .before .wide .ensures) (c .wide2 .ensures) (pre .1) (pre .2) in
+    omega arith
 
 element-write-s1 : tie.Need-element-write-s1
-element-write-s1 c = let start = c .before .before .before in let i = partner-in _ _ _ _ (c .before .before .wide .ensures) (c .wide2 .ensures) (start .pre .1) (start .pre .2) in omega arith
+element-write-s1 c =
+    let pre = c .before .before .before .pre in
+    let i = partner-in _ _ _ _ (c .before .before .wide .ensures) (c .wide2 .ensures) (pre .1) (pre .2) in
+    omega arith
 
 mul-s1-2 : tie.Need-mul-s1-2
 mul-s1-2 c = search needs
@@ -36,7 +45,9 @@ element-write-s1-2 : tie.Need-element-write-s1-2
 element-write-s1-2 c = search needs
 
 returns : tie.Need-returns
-returns c = let start = c .before .before .before in partner-parted _ _ _ _ (c .before .before .wide .ensures) (c .wide2 .ensures) (start .pre .1) (start .pre .2)
+returns c =
+    let pre = c .before .before .before .pre in
+    partner-parted _ _ _ _ (c .before .before .wide .ensures) (c .wide2 .ensures) (pre .1) (pre .2)
 
 pub part-spec : {M : Type 1} → statement M
 part-spec =

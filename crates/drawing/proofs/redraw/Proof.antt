@@ -1,7 +1,6 @@
 -- `redraw` begins the word anew, or shortens the drawing to what is shared; then it extends it to the new word.
 use borrow.Author.Needs.{needs}
 use native.Mathlib.Omega.{arith}
-use lib.ListN.{drop}
 use Rattle.drawing.proofs.Laws.{listed-some, first-spelt, first-room, drawn-begun, shares-some}
 use Rattle.drawing.proofs.redraw.Statement.{statement}
 use Rattle.drawing.proofs.redraw.Tie as tie
@@ -10,28 +9,31 @@ shared-slice-read-begin : tie.Need-shared-slice-read-begin
 shared-slice-read-begin c = listed-some _ (c .before .before .before .before .before .before .before .pre .1 .0)
 
 begin-requires : tie.Need-begin-requires
-begin-requires c κs = let pre = c .before .before .before .before .before .before .before .pre in let Lg = pre .0 in let L = pre .1 .0 in (Lg .pile-long, (_, _, first-spelt _ L, first-room _ L _ _ _ _ Lg))
+begin-requires c κs =
+    let pre = c .before .before .before .before .before .before .before .pre in
+    (pre .0 .pile-long, (_, _, first-spelt _ (pre .1 .0), first-room _ (pre .1 .0) _ _ _ _ (pre .0)))
 
 extend-requires : tie.Need-extend-requires
 extend-requires c κs =
-    let pre = c .before .before .before .before .before .before .before .before .before .before .before .before .pre in let Lg = pre .0 in let L = pre .1 .0 in
+    let pre = c .before .before .before .before .before .before .before .before .before .before .before .before .pre in
+    let L = pre .1 .0 in
     let l = listed-some _ L in
-    (omega arith, l, L, drawn-begun _ L _ _ _ _ _ _ _ _ _ l Lg (c .before .before .before .before .begin .ensures _ _ (first-spelt _ L) (first-room _ L _ _ _ _ Lg)))
+    (omega arith, l, L, drawn-begun _ L _ _ _ _ _ _ _ _ _ l (pre .0) (c .before .before .before .before .begin .ensures _ _ (first-spelt _ L) (first-room _ L _ _ _ _ (pre .0))))
 
 returns : tie.Need-returns
 returns c = search needs
 
 shorten-requires : tie.Need-shorten-requires
 shorten-requires c κs =
-    let pre = c .before .before .before .before .before .before .pre in let Lg = pre .0 in let L = pre .1 .0 in
+    let pre = c .before .before .before .before .before .before .pre in
     let (a, l, m, e, R) = shares-some _ _ _ _ _ _ _ _ _ (pre .1 .1) (c .before .before .before .if1 .left) in
     (a, l, (_, R))
 
 extend-requires-2 : tie.Need-extend-requires-2
 extend-requires-2 c κs =
-    let pre = c .before .before .before .before .before .before .before .before .before .before .before .pre in let Lg = pre .0 in let L = pre .1 .0 in
+    let pre = c .before .before .before .before .before .before .before .before .before .before .before .pre in
     let (a, l, m, e, R) = shares-some _ _ _ _ _ _ _ _ _ (pre .1 .1) (c .before .before .before .before .before .before .before .before .if1 .left) in
-    (a, m, L, rw e at (c .before .before .before .before .shorten .ensures _ R))
+    (a, m, pre .1 .0, rw e at (c .before .before .before .before .shorten .ensures _ R))
 
 returns-2 : tie.Need-returns-2
 returns-2 c = search needs

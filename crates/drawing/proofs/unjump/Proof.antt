@@ -23,7 +23,13 @@ element-write-pile : tie.Need-element-write-pile
 element-write-pile c = search needs
 
 returns : tie.Need-returns
-returns c = record { raised = _; shifted = c .put-in .ensures .0; back-in = c .put-in .ensures .1 ∙ c .before .before .part .ensures .0; on-top = refl; parted = rw (c .before .before .part .ensures .0) at (c .before .before .part .ensures .1) }
+returns c = record {
+  raised = _;
+  shifted = c .put-in .ensures .0;
+  back-in = c .put-in .ensures .1 ∙ c .before .before .part .ensures .0;
+  on-top = refl;
+  parted = rw (c .before .before .part .ensures .0) at (c .before .before .part .ensures .1);
+}
 
 pub unjump-spec : {M : Type 1} → statement M
 unjump-spec =
