@@ -23,8 +23,9 @@ ghost use Rattle.lists.specs.Ranges.{Edge};
 ghost use Rattle.book.specs.Shares.{last};
 ghost use Rattle.book.specs.Taken.{Taken};
 ghost use Rattle.book.specs.Changes.{changed, Placed};
-ghost use Rattle.book.specs.Calls.{moved, claim-answer, claim-book, commit-answer, commit-book, release-answer, release-book, report-answer};
+ghost use Rattle.book.specs.Calls.{moved, report-answer};
 ghost use Rattle.soundness.specs.Entries.{bookWith, Full};
+ghost use Rattle.cores.specs.Decisions.{ClaimOf, ReleaseOf, CommitOf};
 
 pub struct ClaimChoice {
     pub answer: Claiming,
@@ -56,10 +57,7 @@ pub fn claim<'a>(
     length: u64,
 ) -> ClaimChoice
     requires { ⌜ Full (now nexts) (now tickets) (now expiries) ⌝ }
-    ensures { λ r. ⌜ (r .answer ≡ claim-answer (bookWith h (now (nexts .entry)) (now (tickets .entry)) (now (expiries .entry))) tick share length)
-        × (changed (bookWith h (now (nexts .entry)) (now (tickets .entry)) (now (expiries .entry))) (r .change)
-        ≡ claim-book (bookWith h (now (nexts .entry)) (now (tickets .entry)) (now (expiries .entry))) tick share length)
-        × Placed (r .change) ⌝ }
+    ensures { λ r. ⌜ ClaimOf (bookWith h (now (nexts .entry)) (now (tickets .entry)) (now (expiries .entry))) tick share length (r .answer) (r .change) ⌝ }
 {
     let number = claim_number(h, nexts, tickets, expiries, tick, share, length);
     if number != 0 {
@@ -91,10 +89,7 @@ pub fn release<'a>(
     ticket: u64,
 ) -> ReleaseChoice
     requires { ⌜ Full (now nexts) (now tickets) (now expiries) ⌝ }
-    ensures { λ r. ⌜ (r .answer ≡ release-answer (bookWith h (now (nexts .entry)) (now (tickets .entry)) (now (expiries .entry))) tick ticket)
-        × (changed (bookWith h (now (nexts .entry)) (now (tickets .entry)) (now (expiries .entry))) (r .change)
-        ≡ release-book (bookWith h (now (nexts .entry)) (now (tickets .entry)) (now (expiries .entry))) tick ticket)
-        × Placed (r .change) ⌝ }
+    ensures { λ r. ⌜ ReleaseOf (bookWith h (now (nexts .entry)) (now (tickets .entry)) (now (expiries .entry))) tick ticket (r .answer) (r .change) ⌝ }
 {
     match ask(h, nexts, tickets, expiries, tick, ticket) {
         Asked::Refused(k) => ReleaseChoice {
@@ -202,10 +197,7 @@ pub fn commit<'a>(
     position: u64,
 ) -> CommitChoice
     requires { ⌜ Full (now nexts) (now tickets) (now expiries) ⌝ }
-    ensures { λ r. ⌜ (r .answer ≡ commit-answer (bookWith h (now (nexts .entry)) (now (tickets .entry)) (now (expiries .entry))) tick ticket position)
-        × (changed (bookWith h (now (nexts .entry)) (now (tickets .entry)) (now (expiries .entry))) (r .change)
-        ≡ commit-book (bookWith h (now (nexts .entry)) (now (tickets .entry)) (now (expiries .entry))) tick ticket position)
-        × Placed (r .change) ⌝ }
+    ensures { λ r. ⌜ CommitOf (bookWith h (now (nexts .entry)) (now (tickets .entry)) (now (expiries .entry))) tick ticket position (r .answer) (r .change) ⌝ }
 {
     match ask(h, nexts, tickets, expiries, tick, ticket) {
         Asked::Refused(k) => CommitChoice {
