@@ -122,7 +122,8 @@ pub fn take<'a>(
     word: &mut [u16],
 ) -> TakeChoice
     requires { ⌜ Full (now nexts) (now tickets) (now expiries) ⌝ }
-    ensures { λ r. ⌜ Taken (bookWith h (now (nexts .entry)) (now (tickets .entry)) (now (expiries .entry))) tick ticket (now (s0 .entry)) (now (s1 .entry)) (now (word .entry)) (r .answer)
+    ensures { λ r. ⌜ Taken (bookWith h (now (nexts .entry)) (now (tickets .entry)) (now (expiries .entry))) tick ticket
+        (now (s0 .entry)) (now (s1 .entry)) (now (word .entry)) (r .answer)
         (changed (bookWith h (now (nexts .entry)) (now (tickets .entry)) (now (expiries .entry))) (r .change)) (now (s0 .exit)) (now (s1 .exit)) (now (word .exit))
         × Placed (r .change) ⌝ }
 {
@@ -170,7 +171,8 @@ fn moved<'a>(
     tick: u64,
     j: u64,
 ) -> Change
-    requires { ⌜ Edge 50 (h .size) × Edge 32 (h .shares) × Edge 32 j × (at (now nexts) j ≤ last (h .size) (h .shares) j) × Full (now nexts) (now tickets) (now expiries) ⌝ }
+    requires { ⌜ Edge 50 (h .size) × Edge 32 (h .shares) × Edge 32 j × (at (now nexts) j ≤ last (h .size) (h .shares) j)
+        × Full (now nexts) (now tickets) (now expiries) ⌝ }
     ensures { λ r. ⌜ (changed (bookWith h (now (nexts .entry)) (now (tickets .entry)) (now (expiries .entry))) r
         ≡ moved (bookWith h (now (nexts .entry)) (now (tickets .entry)) (now (expiries .entry))) tick j)
         × Placed r ⌝ }

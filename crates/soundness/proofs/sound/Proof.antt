@@ -1,11 +1,11 @@
 use borrow.Author.Needs.{needs}
-use mathlib.Core.Path.{_≡_, refl, sym, _∙_}
-use mathlib.Core.Bool.{Bool, true, false}
-use Prim.Native.Nat.{ℕ, _^_, _≤_, _<_}
+use mathlib.Core.Path.{_≡_, sym, _∙_}
+use mathlib.Core.Bool.{Bool, true}
+use Prim.Native.Nat.{_^_, _<_}
 use lib.Dec.{leb, ltb}
 use denote.Ref.{now}
 use Rattle.lists.specs.Ranges.{Edge}
-use Rattle.lists.proofs.Tests.{both-true, leb-true, ltb-true}
+use Rattle.lists.proofs.Tests.{both-true, ltb-true}
 use Rattle.book.specs.declared.types.Book.{Book}
 use Rattle.book.specs.Sound.{both, among, in-range, counters-in, entries-sound, sound}
 use Rattle.soundness.specs.Entries.{bookWith}

@@ -1,5 +1,5 @@
 use borrow.Author.Needs.{needs}
-use mathlib.Core.Path.{_≡_, sym, _∙_, ap}
+use mathlib.Core.Path.{_∙_, ap}
 use Rattle.layout.specs.Layout.{book-numbers}
 use Rattle.kaldvemir.specs.Answers as answers
 use Rattle.kaldvemir.proofs.books.kaldvemir_commit.Statement.{statement}
