@@ -1,8 +1,8 @@
 // What a claim is refused for.
 use crate::standing::tick_in;
-use book::Book;
+use book::Heads;
 use soundness::shares::entry;
-use soundness::shares::finished;
+use soundness::shares::past;
 use soundness::sound;
 use soundness::tests::among;
 use soundness::tests::both;
@@ -14,6 +14,7 @@ ghost use lib.Dec.{eqb, leb};
 ghost use Rattle.lists.specs.Ranges.{Edge};
 ghost use Rattle.book.specs.Sound.{both, sound};
 ghost use Rattle.book.specs.Calls.{not, claim-number};
+ghost use Rattle.soundness.specs.Entries.{bookWith, Full};
 ghost use Rattle.asking.specs.Claims.{share-number, place-number};
 
 // A ticket t that lapses at e is one, and has not lapsed.
@@ -24,34 +25,63 @@ fn held(t: u64, e: u64, tick: u64) -> bool
 }
 
 // 55, 56 or 57 for a share of a sound book.
-fn share_number(b: Book, tick: u64, share: u64) -> u16
-    requires { ⌜ (sound b ≡ true) × Edge (b .shares) share ⌝ }
-    ensures { λ r. ⌜ r ≡ share-number b tick share ⌝ }
+fn share_number<'a>(
+    h: Heads,
+    nexts: &'a [u64],
+    tickets: &'a [u64],
+    expiries: &'a [u64],
+    tick: u64,
+    share: u64,
+) -> u16
+    requires { ⌜ (sound (bookWith h (now nexts) (now tickets) (now expiries)) ≡ true) × Edge (h .shares) share × Full (now nexts) (now tickets) (now expiries) ⌝ }
+    ensures { λ r. ⌜ r ≡ share-number (bookWith h (now (nexts .entry)) (now (tickets .entry)) (now (expiries .entry))) tick share ⌝ }
 {
-    let taken = held(entry(&b.ticket, share), entry(&b.expiry, share), tick);
-    let issuing = unless(b.issued < 65535, 57, 0);
-    unless(not(finished(b, share)), 55, unless(not(taken), 56, issuing))
+    let taken = held(entry(tickets, share), entry(expiries, share), tick);
+    let finished = past(h.size, h.shares, share, entry(nexts, share));
+    let issuing = unless(h.issued < 65535, 57, 0);
+    unless(not(finished), 55, unless(not(taken), 56, issuing))
 }
 
 // 53 to 57 for a sound book.
-fn place_number(b: Book, tick: u64, share: u64, length: u64) -> u16
-    requires { ⌜ sound b ≡ true ⌝ }
-    ensures { λ r. ⌜ r ≡ place-number b tick share length ⌝ }
+fn place_number<'a>(
+    h: Heads,
+    nexts: &'a [u64],
+    tickets: &'a [u64],
+    expiries: &'a [u64],
+    tick: u64,
+    share: u64,
+    length: u64,
+) -> u16
+    requires { ⌜ (sound (bookWith h (now nexts) (now tickets) (now expiries)) ≡ true) × Full (now nexts) (now tickets) (now expiries) ⌝ }
+    ensures { λ r. ⌜ r ≡ place-number (bookWith h (now (nexts .entry)) (now (tickets .entry)) (now (expiries .entry))) tick share length ⌝ }
 {
-    if among(b.shares, share) {
-        return unless(among(65535, length), 54, share_number(b, tick, share));
+    if among(h.shares, share) {
+        return unless(
+            among(65535, length),
+            54,
+            share_number(h, nexts, tickets, expiries, tick, share),
+        );
     }
     53
 }
 
-pub fn claim_number(b: Book, tick: u64, share: u64, length: u64) -> u16
-    ensures { λ r. ⌜ r ≡ claim-number b tick share length ⌝ }
+pub fn claim_number<'a>(
+    h: Heads,
+    nexts: &'a [u64],
+    tickets: &'a [u64],
+    expiries: &'a [u64],
+    tick: u64,
+    share: u64,
+    length: u64,
+) -> u16
+    requires { ⌜ Full (now nexts) (now tickets) (now expiries) ⌝ }
+    ensures { λ r. ⌜ r ≡ claim-number (bookWith h (now (nexts .entry)) (now (tickets .entry)) (now (expiries .entry))) tick share length ⌝ }
 {
-    if sound(b) {
+    if sound(h, nexts, tickets, expiries) {
         return unless(
-            tick_in(b.latest, tick),
+            tick_in(h.latest, tick),
             52,
-            place_number(b, tick, share, length),
+            place_number(h, nexts, tickets, expiries, tick, share, length),
         );
     }
     50

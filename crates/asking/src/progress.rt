@@ -1,40 +1,39 @@
 // What the report counts.
-use book::Book;
+use book::Heads;
 use soundness::shares::count_of;
 use soundness::shares::last_of;
 ghost use mathlib.Core.Path.{_≡_};
 ghost use mathlib.Core.Bool.{true};
 ghost use Rattle.book.specs.Shares.{committed, complete};
 ghost use Rattle.book.specs.Sound.{sound};
+ghost use Rattle.soundness.specs.Entries.{bookWith, Full};
 
 // The number of committed positions: of each share, those from its first to the one before its next.
-pub fn committed(b: Book) -> u64
-    requires { ⌜ sound b ≡ true ⌝ }
-    ensures { λ r. ⌜ r ≡ committed b ⌝ }
+pub fn committed<'a>(h: Heads, nexts: &'a [u64], tickets: &'a [u64], expiries: &'a [u64]) -> u64
+    requires { ⌜ (sound (bookWith h (now nexts) (now tickets) (now expiries)) ≡ true) × Full (now nexts) (now tickets) (now expiries) ⌝ }
+    ensures { λ r. ⌜ r ≡ committed (bookWith h (now (nexts .entry)) (now (tickets .entry)) (now (expiries .entry))) ⌝ }
 {
-    let total = count_of(b.size);
-    let k = b.shares;
+    let total = count_of(h.size);
     let mut sum: u64 = 0;
     let mut i: u64 = 0;
-    while i < k {
+    while i < h.shares {
         let at = i as usize;
-        sum += b.next[at] - (last_of(total, k, i) + 1);
+        sum += nexts[at] - (last_of(total, h.shares, i) + 1);
         i += 1;
     }
     sum
 }
 
 // Every share's next position is past its last.
-pub fn complete(b: Book) -> bool
-    requires { ⌜ sound b ≡ true ⌝ }
-    ensures { λ r. ⌜ r ≡ complete b ⌝ }
+pub fn complete<'a>(h: Heads, nexts: &'a [u64], tickets: &'a [u64], expiries: &'a [u64]) -> bool
+    requires { ⌜ (sound (bookWith h (now nexts) (now tickets) (now expiries)) ≡ true) × Full (now nexts) (now tickets) (now expiries) ⌝ }
+    ensures { λ r. ⌜ r ≡ complete (bookWith h (now (nexts .entry)) (now (tickets .entry)) (now (expiries .entry))) ⌝ }
 {
-    let total = count_of(b.size);
-    let k = b.shares;
+    let total = count_of(h.size);
     let mut i: u64 = 0;
-    while i < k {
+    while i < h.shares {
         let at = i as usize;
-        if b.next[at] <= last_of(total, k, i + 1) {
+        if nexts[at] <= last_of(total, h.shares, i + 1) {
             return false;
         }
         i += 1;

@@ -1,13 +1,16 @@
 // Where a ticket stands, and what take, commit and release ask first.
-use book::Book;
+use book::Heads;
 use soundness::shares::entry;
 use soundness::sound;
 use soundness::tests::both;
 ghost use mathlib.Core.Path.{_≡_};
-ghost use Prim.Native.Nat.{_≤_, _^_};
+ghost use mathlib.Core.List.{List};
+ghost use Prim.Native.Nat.{ℕ, _≤_, _^_};
 ghost use lib.Dec.{leb, ltb};
+ghost use lib.ListN.{length};
 ghost use Rattle.book.specs.Shares.{holder};
 ghost use Rattle.book.specs.Sound.{both};
+ghost use Rattle.soundness.specs.Entries.{bookWith, Full};
 ghost use Rattle.asking.specs.Asking.{Asking};
 
 // The share where the ticket stands and has not lapsed, or 50, 52, 58 or 59.
@@ -24,17 +27,17 @@ pub fn tick_in(latest: u64, tick: u64) -> bool
 }
 
 // The share where the ticket stands, 0 where it stands at none.
-pub fn holder(b: Book, ticket: u64) -> u64
-    requires { ⌜ b .shares ≤ 32 ⌝ }
-    ensures { λ r. ⌜ r ≡ holder b ticket ⌝ }
+pub fn holder(h: Heads, tickets: &[u64], ticket: u64) -> u64
+    requires { ⌜ (h .shares ≤ 32) × (length (now tickets) ≡ 32) ⌝ }
+    ensures { λ r. ⌜ ((p e : List ℕ) → r ≡ holder (bookWith h p (now (tickets .entry)) e) ticket) ⌝ }
 {
     if ticket == 0 {
         return 0;
     }
-    let mut j = b.shares;
+    let mut j = h.shares;
     while 0 < j {
         let i = (j - 1) as usize;
-        if b.ticket[i] == ticket {
+        if tickets[i] == ticket {
             return j;
         }
         j -= 1;
@@ -42,20 +45,28 @@ pub fn holder(b: Book, ticket: u64) -> u64
     0
 }
 
-pub fn ask(b: Book, tick: u64, ticket: u64) -> Asked
-    ensures { λ r. ⌜ Asking b tick ticket r ⌝ }
+pub fn ask<'a>(
+    h: Heads,
+    nexts: &'a [u64],
+    tickets: &'a [u64],
+    expiries: &'a [u64],
+    tick: u64,
+    ticket: u64,
+) -> Asked
+    requires { ⌜ Full (now nexts) (now tickets) (now expiries) ⌝ }
+    ensures { λ r. ⌜ Asking (bookWith h (now (nexts .entry)) (now (tickets .entry)) (now (expiries .entry))) tick ticket r ⌝ }
 {
-    if !sound(b) {
+    if !sound(h, nexts, tickets, expiries) {
         return Asked::Refused(50);
     }
-    if !tick_in(b.latest, tick) {
+    if !tick_in(h.latest, tick) {
         return Asked::Refused(52);
     }
-    let share = holder(b, ticket);
+    let share = holder(h, tickets, ticket);
     if share == 0 {
         return Asked::Refused(58);
     }
-    if entry(&b.expiry, share) <= tick {
+    if entry(expiries, share) <= tick {
         return Asked::Refused(59);
     }
     Asked::Share(share)

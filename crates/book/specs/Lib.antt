@@ -2,4 +2,5 @@ pub mod Shares
 pub mod Holding
 pub mod Sound
 pub mod Calls
+pub mod Changes
 pub mod Taken

@@ -3,10 +3,12 @@
 pub mod types;
 
 pub use types::Book;
+pub use types::Change;
 pub use types::ClaimDone;
 pub use types::Claiming;
 pub use types::CommitDone;
 pub use types::Committing;
+pub use types::Heads;
 pub use types::OpenDone;
 pub use types::Opening;
 pub use types::ReleaseDone;

@@ -16,6 +16,28 @@ pub struct Book {
     pub expiry: [u64; 32],
 }
 
+// The numbers of a book apart from its lists.
+pub struct Heads {
+    pub size: u64,
+    pub shares: u64,
+    pub latest: u64,
+    pub issued: u64,
+}
+
+// What a call alters in a book: nothing; the latest tick; or that, the number of tickets issued and the entries of one share.
+pub enum Change {
+    Nothing,
+    Latest(u64),
+    Entries {
+        latest: u64,
+        issued: u64,
+        share: u64,
+        next: u64,
+        ticket: u64,
+        expiry: u64,
+    },
+}
+
 pub enum Opening {
     Opened,
     Refused(u16),

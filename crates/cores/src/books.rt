@@ -1,17 +1,18 @@
 // The books that the operations leave.
 use book::Book;
+use book::Change;
+use book::Heads;
 use soundness::shares::count_of;
-use soundness::shares::entry;
-use soundness::shares::finished;
 use soundness::shares::last_of;
 ghost use mathlib.Core.Path.{_≡_};
-ghost use Prim.Native.Nat.{ℕ, _≤_, _<_, _^_};
+ghost use Prim.Native.Nat.{ℕ, _<_, _^_};
 ghost use lib.Dec.{leb};
 ghost use Rattle.lists.specs.Lists.{pick, listed};
 ghost use Rattle.lists.specs.Ranges.{Edge};
 ghost use Rattle.counting.specs.Listing.{count};
-ghost use Rattle.book.specs.Shares.{first, last, next};
-ghost use Rattle.book.specs.Calls.{opened, entered, ticked, moved};
+ghost use Rattle.book.specs.Shares.{first};
+ghost use Rattle.book.specs.Calls.{opened, entered, ticked};
+ghost use Rattle.book.specs.Changes.{headsOf, changed, Placed};
 
 // The first positions of shares 1..k; 0 for the unused ones.
 fn firsts(total: u64, k: u64) -> [u64; 32]
@@ -45,7 +46,7 @@ pub fn opened(size: u64, k: u64) -> Book
 }
 
 // The book with other entries at share j, and the tick kept as the latest.
-pub fn entered(b: Book, tick: u64, issues: u64, j: u64, p: u64, t: u64, e: u64) -> Book
+fn entered(b: Book, tick: u64, issues: u64, j: u64, p: u64, t: u64, e: u64) -> Book
     requires { ⌜ Edge 32 j ⌝ }
     ensures { λ r. ⌜ r ≡ entered b tick issues j p t e ⌝ }
 {
@@ -60,7 +61,7 @@ pub fn entered(b: Book, tick: u64, issues: u64, j: u64, p: u64, t: u64, e: u64) 
 }
 
 // The book with that tick as the latest.
-pub fn ticked(b: Book, tick: u64) -> Book
+fn ticked(b: Book, tick: u64) -> Book
     ensures { λ r. ⌜ r ≡ ticked b tick ⌝ }
 {
     let mut b = b;
@@ -68,23 +69,33 @@ pub fn ticked(b: Book, tick: u64) -> Book
     b
 }
 
-// Share j moves on by one; past its last position its ticket ends.
-pub fn moved(b: Book, tick: u64, j: u64) -> Book
-    requires { ⌜ Edge 50 (b .size) × Edge 32 (b .shares) × Edge 32 j × (next b j ≤ last (b .size) (b .shares) j) ⌝ }
-    ensures { λ r. ⌜ r ≡ moved b tick j ⌝ }
+// The book with a change carried out.
+pub fn changed(b: Book, c: Change) -> Book
+    requires { ⌜ Placed c ⌝ }
+    ensures { λ r. ⌜ r ≡ changed b c ⌝ }
 {
-    let position = entry(&b.next, j) + 1;
-    let kept = entered(
-        b,
-        tick,
-        b.issued,
-        j,
-        position,
-        entry(&b.ticket, j),
-        entry(&b.expiry, j),
-    );
-    if finished(kept, j) {
-        return entered(b, tick, b.issued, j, position, 0, 0);
+    match c {
+        Change::Nothing => b,
+        Change::Latest(tick) => ticked(b, tick),
+        Change::Entries {
+            latest,
+            issued,
+            share,
+            next,
+            ticket,
+            expiry,
+        } => entered(b, latest, issued, share, next, ticket, expiry),
     }
-    kept
+}
+
+// The numbers of a book apart from its lists.
+pub fn heads(b: Book) -> Heads
+    ensures { λ r. ⌜ r ≡ headsOf b ⌝ }
+{
+    Heads {
+        size: b.size,
+        shares: b.shares,
+        latest: b.latest,
+        issued: b.issued,
+    }
 }

@@ -1,30 +1,19 @@
-// The operations of the share book on a book by value: each returns its answer with the book that it leaves.
+// The operations of the share book on a book by value: each returns its answer with the book that it leaves. What it answers and alters
+// is decided on the lent parts of the book.
 mod books;
+pub mod decisions;
 
-use asking::claims::claim_number;
-use asking::progress::committed;
-use asking::progress::complete;
-use asking::standing::Asked;
-use asking::standing::ask;
 use book::Book;
 use book::ClaimDone;
-use book::Claiming;
 use book::CommitDone;
-use book::Committing;
 use book::OpenDone;
 use book::Opening;
 use book::ReleaseDone;
-use book::Releasing;
 use book::Reporting;
 use book::TakeDone;
-use book::Taking;
-use books::entered;
-use books::moved;
+use books::changed;
+use books::heads;
 use books::opened;
-use books::ticked;
-use positions::Entry;
-use soundness::shares::entry;
-use soundness::sound;
 use soundness::tests::among;
 ghost use mathlib.Core.Path.{_≡_};
 ghost use Rattle.book.specs.Taken.{Taken};
@@ -54,33 +43,26 @@ pub fn open_core(b: Book, size: u64, k: u64) -> OpenDone
 pub fn claim_core(b: Book, tick: u64, share: u64, length: u64) -> ClaimDone
     ensures { λ r. ⌜ (r .answer ≡ claim-answer b tick share length) × (r .book ≡ claim-book b tick share length) ⌝ }
 {
-    let number = claim_number(b, tick, share, length);
-    if number != 0 {
-        return ClaimDone {
-            answer: Claiming::Refused(number),
-            book: b,
-        };
-    }
-    let ticket = b.issued + 1;
-    let position = entry(&b.next, share);
+    let h = heads(b);
+    let choice = decisions::claim(h, &b.next, &b.ticket, &b.expiry, tick, share, length);
+    let answer = choice.answer;
+    let change = choice.change;
     ClaimDone {
-        answer: Claiming::Ticket(ticket),
-        book: entered(b, tick, ticket, share, position, ticket, tick + length),
+        answer,
+        book: changed(b, change),
     }
 }
 
 pub fn release_core(b: Book, tick: u64, ticket: u64) -> ReleaseDone
     ensures { λ r. ⌜ (r .answer ≡ release-answer b tick ticket) × (r .book ≡ release-book b tick ticket) ⌝ }
 {
-    match ask(b, tick, ticket) {
-        Asked::Refused(k) => ReleaseDone {
-            answer: Releasing::Refused(k),
-            book: b,
-        },
-        Asked::Share(j) => ReleaseDone {
-            answer: Releasing::Released,
-            book: entered(b, tick, b.issued, j, entry(&b.next, j), 0, 0),
-        },
+    let h = heads(b);
+    let choice = decisions::release(h, &b.next, &b.ticket, &b.expiry, tick, ticket);
+    let answer = choice.answer;
+    let change = choice.change;
+    ReleaseDone {
+        answer,
+        book: changed(b, change),
     }
 }
 
@@ -94,62 +76,32 @@ pub fn take_core(
 ) -> TakeDone
     ensures { λ r. ⌜ Taken b tick ticket (now (s0 .entry)) (now (s1 .entry)) (now (word .entry)) (r .answer) (r .book) (now (s0 .exit)) (now (s1 .exit)) (now (word .exit)) ⌝ }
 {
-    match ask(b, tick, ticket) {
-        Asked::Refused(k) => TakeDone {
-            answer: Taking::Refused(k),
-            book: b,
-        },
-        Asked::Share(j) => {
-            let position = entry(&b.next, j);
-            match positions::diagram_at(b.size, position, s0, s1, word) {
-                Entry::Refused(k) => TakeDone {
-                    answer: Taking::Refused(k),
-                    book: b,
-                },
-                Entry::Length(m) => TakeDone {
-                    answer: Taking::Given {
-                        share: j,
-                        position,
-                        length: m as u64,
-                    },
-                    book: ticked(b, tick),
-                },
-            }
-        }
+    let h = heads(b);
+    let choice = decisions::take(h, &b.next, &b.ticket, &b.expiry, tick, ticket, s0, s1, word);
+    let answer = choice.answer;
+    let change = choice.change;
+    TakeDone {
+        answer,
+        book: changed(b, change),
     }
 }
 
 pub fn commit_core(b: Book, tick: u64, ticket: u64, position: u64) -> CommitDone
     ensures { λ r. ⌜ (r .answer ≡ commit-answer b tick ticket position) × (r .book ≡ commit-book b tick ticket position) ⌝ }
 {
-    match ask(b, tick, ticket) {
-        Asked::Refused(k) => CommitDone {
-            answer: Committing::Refused(k),
-            book: b,
-        },
-        Asked::Share(j) => {
-            if entry(&b.next, j) != position {
-                return CommitDone {
-                    answer: Committing::Refused(60),
-                    book: b,
-                };
-            }
-            CommitDone {
-                answer: Committing::Committed,
-                book: moved(b, tick, j),
-            }
-        }
+    let h = heads(b);
+    let choice = decisions::commit(h, &b.next, &b.ticket, &b.expiry, tick, ticket, position);
+    let answer = choice.answer;
+    let change = choice.change;
+    CommitDone {
+        answer,
+        book: changed(b, change),
     }
 }
 
 pub fn report_core(b: Book) -> Reporting
     ensures { λ r. ⌜ r ≡ report-answer b ⌝ }
 {
-    if !sound(b) {
-        return Reporting::Refused(50);
-    }
-    Reporting::Progress {
-        committed: committed(b),
-        complete: complete(b),
-    }
+    let h = heads(b);
+    decisions::report(h, &b.next, &b.ticket, &b.expiry)
 }

@@ -1,4 +1,4 @@
-// The share book. It lies with the caller as 100 numbers.
+// The share book. It lies with the caller as 100 numbers: an operation looks at them where they are, and writes those that it alters.
 use crate::answers::claim_number;
 use crate::answers::claim_ticket;
 use crate::answers::commit_number;
@@ -11,12 +11,14 @@ use crate::answers::take_length;
 use crate::answers::take_number;
 use crate::answers::take_position;
 use crate::answers::take_share;
-use cores::claim_core;
-use cores::commit_core;
+use cores::decisions::claim;
+use cores::decisions::commit;
+use cores::decisions::release;
+use cores::decisions::report;
+use cores::decisions::take;
 use cores::open_core;
-use cores::release_core;
-use cores::report_core;
-use cores::take_core;
+use layout::books::change;
+use layout::books::heads;
 use layout::books::held;
 use layout::books::put_back;
 ghost use mathlib.Core.Path.{_≡_};
@@ -50,9 +52,19 @@ pub extern "C" fn kaldvemir_claim(
         × (now (ticket .exit) ≡ answers.claim-ticket (claim-answer (book-of (now (book .entry))) tick share length) (now (ticket .entry)))
         × (now (book .exit) ≡ book-numbers (claim-book (book-of (now (book .entry))) tick share length)) ⌝ }
 {
-    let done = claim_core(held(*book), tick, share, length);
-    let answer = done.answer;
-    put_back(book, done.book);
+    let numbers: &[u64] = book;
+    let choice = claim(
+        heads(numbers),
+        &numbers[4..36],
+        &numbers[36..68],
+        &numbers[68..100],
+        tick,
+        share,
+        length,
+    );
+    let answer = choice.answer;
+    let altered = choice.change;
+    change(book, altered);
     *ticket = claim_ticket(answer, *ticket);
     claim_number(answer)
 }
@@ -77,9 +89,21 @@ pub extern "C" fn kaldvemir_take(
         × (now (length .exit) ≡ answers.take-length a (now (length .entry)))
         × (now (book .exit) ≡ book-numbers next)) ⌝ }
 {
-    let done = take_core(held(*book), tick, ticket, s0, s1, word);
-    let answer = done.answer;
-    put_back(book, done.book);
+    let numbers: &[u64] = book;
+    let choice = take(
+        heads(numbers),
+        &numbers[4..36],
+        &numbers[36..68],
+        &numbers[68..100],
+        tick,
+        ticket,
+        s0,
+        s1,
+        word,
+    );
+    let answer = choice.answer;
+    let altered = choice.change;
+    change(book, altered);
     *share = take_share(answer, *share);
     *position = take_position(answer, *position);
     *length = take_length(answer, *length);
@@ -96,9 +120,19 @@ pub extern "C" fn kaldvemir_commit(
     ensures { λ r. ⌜ (r ≡ answers.commit-number (commit-answer (book-of (now (book .entry))) tick ticket position))
         × (now (book .exit) ≡ book-numbers (commit-book (book-of (now (book .entry))) tick ticket position)) ⌝ }
 {
-    let done = commit_core(held(*book), tick, ticket, position);
-    let answer = done.answer;
-    put_back(book, done.book);
+    let numbers: &[u64] = book;
+    let choice = commit(
+        heads(numbers),
+        &numbers[4..36],
+        &numbers[36..68],
+        &numbers[68..100],
+        tick,
+        ticket,
+        position,
+    );
+    let answer = choice.answer;
+    let altered = choice.change;
+    change(book, altered);
     commit_number(answer)
 }
 
@@ -107,9 +141,18 @@ pub extern "C" fn kaldvemir_release(book: &mut [u64; 100], tick: u64, ticket: u6
     ensures { λ r. ⌜ (r ≡ answers.release-number (release-answer (book-of (now (book .entry))) tick ticket))
         × (now (book .exit) ≡ book-numbers (release-book (book-of (now (book .entry))) tick ticket)) ⌝ }
 {
-    let done = release_core(held(*book), tick, ticket);
-    let answer = done.answer;
-    put_back(book, done.book);
+    let numbers: &[u64] = book;
+    let choice = release(
+        heads(numbers),
+        &numbers[4..36],
+        &numbers[36..68],
+        &numbers[68..100],
+        tick,
+        ticket,
+    );
+    let answer = choice.answer;
+    let altered = choice.change;
+    change(book, altered);
     release_number(answer)
 }
 
@@ -123,7 +166,13 @@ pub extern "C" fn kaldvemir_report(
         × (now (committed .exit) ≡ answers.report-committed (report-answer (book-of (now (book .entry)))) (now (committed .entry)))
         × (now (complete .exit) ≡ answers.report-complete (report-answer (book-of (now (book .entry)))) (now (complete .entry))) ⌝ }
 {
-    let answer = report_core(held(*book));
+    let numbers: &[u64] = book;
+    let answer = report(
+        heads(numbers),
+        &numbers[4..36],
+        &numbers[36..68],
+        &numbers[68..100],
+    );
     *committed = report_committed(answer, *committed);
     *complete = report_complete(answer, *complete);
     report_number(answer)

@@ -1,8 +1,8 @@
-// Whether a book is sound: the conditions of refusal 50. What looks at one share is lent the book's lists and not the book.
+// Whether a book is sound: the conditions of refusal 50. The functions are lent the book's lists, as slices, so that they may lie anywhere.
 pub mod shares;
 pub mod tests;
 
-use book::Book;
+use book::Heads;
 use shares::Ends;
 use shares::count_of;
 use shares::onward;
@@ -14,11 +14,12 @@ use tests::not;
 ghost use mathlib.Core.Path.{_≡_};
 ghost use Prim.Native.Nat.{ℕ, suc, _+_, _<_, _^_};
 ghost use lib.Dec.{leb, ltb};
+ghost use lib.ListN.{length};
 ghost use Rattle.lists.specs.Ranges.{Edge};
 ghost use Rattle.counting.specs.Listing.{count};
 ghost use Rattle.book.specs.Shares.{last};
 ghost use Rattle.book.specs.Sound.{both, share-sound, entry-unused, entries-sound, sound};
-ghost use Rattle.soundness.specs.Entries.{bookOf, placed, once-before, timely, entry-sound};
+ghost use Rattle.soundness.specs.Entries.{bookOf, bookWith, Full, placed, once-before, timely, entry-sound};
 
 // Of a share that holds the positions after `before` up to `end`: its next position p is one of them or just past them, and past them
 // it has no ticket.
@@ -31,8 +32,8 @@ fn place_sound(before: u64, end: u64, p: u64, t: u64) -> bool
 }
 
 // The ticket at place i, if there is one, stands at no place before. Without an early end, so that several are compared at once.
-fn ticket_once(ticket: &[u64; 32], i: usize) -> bool
-    requires { ⌜ i < 32 ⌝ }
+fn ticket_once(ticket: &[u64], i: usize) -> bool
+    requires { ⌜ (i < 32) × (length (now ticket) ≡ 32) ⌝ }
     ensures { λ r. ⌜ r ≡ once-before (now (ticket .entry)) i ⌝ }
 {
     let t = ticket[i];
@@ -59,12 +60,12 @@ fn share_sound<'a>(
     end: u64,
     latest: u64,
     issued: u64,
-    next: &'a [u64; 32],
-    ticket: &'a [u64; 32],
-    expiry: &'a [u64; 32],
+    next: &'a [u64],
+    ticket: &'a [u64],
+    expiry: &'a [u64],
     i: usize,
 ) -> bool
-    requires { ⌜ (before < 2 ^ 56) × (end < 2 ^ 56) × (i < 32) × (latest < 2 ^ 48) ⌝ }
+    requires { ⌜ (before < 2 ^ 56) × (end < 2 ^ 56) × (i < 32) × (latest < 2 ^ 48) × Full (now next) (now ticket) (now expiry) ⌝ }
     ensures { λ r. ⌜ ((n k : ℕ) → before ≡ last n k i → end ≡ last n k (i + 1)
         → r ≡ share-sound (bookOf n k latest issued (now (next .entry)) (now (ticket .entry)) (now (expiry .entry))) (suc i)) ⌝ }
 {
@@ -85,12 +86,12 @@ fn entry_sound<'a>(
     k: u64,
     latest: u64,
     issued: u64,
-    next: &'a [u64; 32],
-    ticket: &'a [u64; 32],
-    expiry: &'a [u64; 32],
+    next: &'a [u64],
+    ticket: &'a [u64],
+    expiry: &'a [u64],
     i: usize,
 ) -> bool
-    requires { ⌜ (before < 2 ^ 56) × (end < 2 ^ 56) × (i < 32) × (latest < 2 ^ 48) ⌝ }
+    requires { ⌜ (before < 2 ^ 56) × (end < 2 ^ 56) × (i < 32) × (latest < 2 ^ 48) × Full (now next) (now ticket) (now expiry) ⌝ }
     ensures { λ r. ⌜ ((n : ℕ) → before ≡ last n k i → end ≡ last n k (i + 1)
         → r ≡ entry-sound (bookOf n k latest issued (now (next .entry)) (now (ticket .entry)) (now (expiry .entry))) (suc i)) ⌝ }
 {
@@ -101,11 +102,17 @@ fn entry_sound<'a>(
 }
 
 // Place after place, the end of each share found from the one before: a division for each would cost more than all the rest.
-fn entries_sound(b: Book, total: u64) -> bool
-    requires { ⌜ (total ≡ count (b .size)) × (total < 2 ^ 50) × Edge 32 (b .shares) × (b .latest < 2 ^ 48) ⌝ }
-    ensures { λ r. ⌜ r ≡ entries-sound b ⌝ }
+fn entries_sound<'a>(
+    h: Heads,
+    total: u64,
+    next: &'a [u64],
+    ticket: &'a [u64],
+    expiry: &'a [u64],
+) -> bool
+    requires { ⌜ (total ≡ count (h .size)) × (total < 2 ^ 50) × Edge 32 (h .shares) × (h .latest < 2 ^ 48) × Full (now next) (now ticket) (now expiry) ⌝ }
+    ensures { λ r. ⌜ r ≡ entries-sound (bookWith h (now (next .entry)) (now (ticket .entry)) (now (expiry .entry))) ⌝ }
 {
-    let k = b.shares;
+    let k = h.shares;
     let step = total / k;
     let part = total % k;
     let mut before: u64 = 0;
@@ -117,11 +124,11 @@ fn entries_sound(b: Book, total: u64) -> bool
             before,
             ends.last,
             k,
-            b.latest,
-            b.issued,
-            &b.next,
-            &b.ticket,
-            &b.expiry,
+            h.latest,
+            h.issued,
+            next,
+            ticket,
+            expiry,
             i,
         ) {
             return false;
@@ -140,12 +147,13 @@ fn counters_in(issued: u64, latest: u64) -> bool
     both(issued <= 65535, latest < 281474976710656)
 }
 
-pub fn sound(b: Book) -> bool
-    ensures { λ r. ⌜ r ≡ sound b ⌝ }
+pub fn sound<'a>(h: Heads, next: &'a [u64], ticket: &'a [u64], expiry: &'a [u64]) -> bool
+    requires { ⌜ Full (now next) (now ticket) (now expiry) ⌝ }
+    ensures { λ r. ⌜ r ≡ sound (bookWith h (now (next .entry)) (now (ticket .entry)) (now (expiry .entry))) ⌝ }
 {
-    let sized = both(among(50, b.size), among(32, b.shares));
-    if both(sized, counters_in(b.issued, b.latest)) {
-        return entries_sound(b, count_of(b.size));
+    let sized = both(among(50, h.size), among(32, h.shares));
+    if both(sized, counters_in(h.issued, h.latest)) {
+        return entries_sound(h, count_of(h.size), next, ticket, expiry);
     }
     false
 }

@@ -1,12 +1,13 @@
 // The positions that a share holds.
-use book::Book;
 use positions::Total;
 ghost use mathlib.Core.Path.{_≡_};
 ghost use Prim.Native.Nat.{ℕ, _+_, _*_, _<_, _≤_, _^_};
+ghost use lib.Dec.{ltb};
+ghost use lib.ListN.{length};
 ghost use Rattle.lists.specs.Lists.{at};
 ghost use Rattle.lists.specs.Ranges.{Edge};
 ghost use Rattle.counting.specs.Listing.{count};
-ghost use Rattle.book.specs.Shares.{last, finished};
+ghost use Rattle.book.specs.Shares.{last};
 
 // The count of a listed size.
 pub fn count_of(size: u64) -> u64
@@ -52,18 +53,17 @@ pub fn onward(e: Ends, step: u64, part: u64, k: u64) -> Ends
 }
 
 // Share j's entry in one of the book's lists.
-pub fn entry(list: &[u64; 32], j: u64) -> u64
-    requires { ⌜ Edge 32 j ⌝ }
+pub fn entry(list: &[u64], j: u64) -> u64
+    requires { ⌜ Edge 32 j × (length (now list) ≡ 32) ⌝ }
     ensures { λ r. ⌜ r ≡ at (now (list .entry)) j ⌝ }
 {
     list[(j - 1) as usize]
 }
 
-// Share j's next position is past its last.
-pub fn finished(b: Book, j: u64) -> bool
-    requires { ⌜ Edge 50 (b .size) × Edge 32 (b .shares) × Edge 32 j ⌝ }
-    ensures { λ r. ⌜ r ≡ finished b j ⌝ }
+// The next position p is past the last of share j of k.
+pub fn past(size: u64, k: u64, j: u64, p: u64) -> bool
+    requires { ⌜ Edge 50 size × Edge 32 k × Edge 32 j ⌝ }
+    ensures { λ r. ⌜ r ≡ ltb (last size k j) p ⌝ }
 {
-    let last = last_of(count_of(b.size), b.shares, j);
-    last < entry(&b.next, j)
+    last_of(count_of(size), k, j) < p
 }

@@ -15,25 +15,27 @@ share-sound-requires : tie.Need-share-sound-requires
 share-sound-requires c κs = search needs
 
 returns : tie.Need-returns
-returns c n p q = rw (le-true (suc (c .before .before .args .i)) (c .before .before .args .k) (c .before .if1 .taken)) (c .share-sound .ensures n (c .before .before .args .k) p q)
+returns c n p q =
+    let a = c .before .before .before .before .before .args in
+    rw (le-true (suc (a .i)) (a .k) (c .before .if1 .taken)) (c .share-sound .ensures n (a .k) p q)
 
 mul-both : tie.Need-mul-both
 mul-both c = search needs
 
-element-copy-out-both : tie.Need-element-copy-out-both
-element-copy-out-both c = search needs
+shared-slice-read-both : tie.Need-shared-slice-read-both
+shared-slice-read-both c = search needs
 
 mul-both-2 : tie.Need-mul-both-2
 mul-both-2 c = search needs
 
-element-copy-out-both-2 : tie.Need-element-copy-out-both-2
-element-copy-out-both-2 c = search needs
+shared-slice-read-both-2 : tie.Need-shared-slice-read-both-2
+shared-slice-read-both-2 c = search needs
 
 mul-both-3 : tie.Need-mul-both-3
 mul-both-3 c = search needs
 
-element-copy-out-both-3 : tie.Need-element-copy-out-both-3
-element-copy-out-both-3 c = search needs
+shared-slice-read-both-3 : tie.Need-shared-slice-read-both-3
+shared-slice-read-both-3 c = search needs
 
 both-requires : tie.Need-both-requires
 both-requires c κs = search needs
@@ -43,7 +45,7 @@ both-requires-2 c κs = search needs
 
 returns-2 : tie.Need-returns-2
 returns-2 c n p q =
-    let a = c .before .before .before .before .before .before .args in
+    let a = c .before .before .before .before .before .before .before .before .before .args in
     rw (le-false (suc (a .i)) (a .k) (omega arith), c .both2 .ensures, c .before .both .ensures) (unfold entry-unused in refl)
 
 pub entry-sound-spec : {M : Type 1} → statement M
@@ -53,11 +55,11 @@ entry-sound-spec =
     share-sound-requires
     returns
     mul-both
-    element-copy-out-both
+    shared-slice-read-both
     mul-both-2
-    element-copy-out-both-2
+    shared-slice-read-both-2
     mul-both-3
-    element-copy-out-both-3
+    shared-slice-read-both-3
     both-requires
     both-requires-2
     returns-2)

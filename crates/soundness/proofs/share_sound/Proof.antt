@@ -1,6 +1,5 @@
 use borrow.Author.Needs.{needs}
-use mathlib.Core.Path.{_≡_, refl, sym, _∙_}
-use mathlib.Core.Bool.{Bool, true, false}
+use mathlib.Core.Path.{_≡_, sym, _∙_}
 use mathlib.Core.List.{List}
 use Prim.Native.Nat.{ℕ, suc, pred, _+_, _-_}
 use native.Mathlib.Numerals.{add-one}
@@ -33,14 +32,14 @@ share-tests n k latest issued next ticket expiry i x y p q =
 mul-t : tie.Need-mul-t
 mul-t c = search needs
 
-element-copy-out-t : tie.Need-element-copy-out-t
-element-copy-out-t c = search needs
+shared-slice-read-t : tie.Need-shared-slice-read-t
+shared-slice-read-t c = search needs
 
 mul-place-sound : tie.Need-mul-place-sound
 mul-place-sound c = search needs
 
-element-copy-out-place-sound : tie.Need-element-copy-out-place-sound
-element-copy-out-place-sound c = search needs
+shared-slice-read-place-sound : tie.Need-shared-slice-read-place-sound
+shared-slice-read-place-sound c = search needs
 
 place-sound-requires : tie.Need-place-sound-requires
 place-sound-requires c κs = search needs
@@ -51,8 +50,8 @@ ticket-once-requires c κs = search needs
 mul-expiry-in : tie.Need-mul-expiry-in
 mul-expiry-in c = search needs
 
-element-copy-out-expiry-in : tie.Need-element-copy-out-expiry-in
-element-copy-out-expiry-in c = search needs
+shared-slice-read-expiry-in : tie.Need-shared-slice-read-expiry-in
+shared-slice-read-expiry-in c = search needs
 
 expiry-in-requires : tie.Need-expiry-in-requires
 expiry-in-requires c κs = search needs
@@ -66,12 +65,12 @@ both-requires-2 c κs = search needs
 returns : tie.Need-returns
 returns c n k p q =
     let t = c .before .before .before .before in
-    let a = t .before .before .before .before .before .args in
+    let a = t .before .before .before .before .before .before .before .before .args in
     rw (c .both2 .ensures, c .before .both .ensures, c .before .before .expiry-in .ensures, t .ticket-once .ensures, share-tests n k (a .latest) (a .issued) (now (a .next)) (now (a .ticket)) (now (a .expiry)) (a .i) _ _ p q, sym (t .before .before .place-sound .ensures) ∙ t .before .if1 .taken)
 
 returns-2 : tie.Need-returns-2
 returns-2 c n k p q =
-    let a = c .before .before .before .before .args in
+    let a = c .before .before .before .before .before .before .before .args in
     rw (share-tests n k (a .latest) (a .issued) (now (a .next)) (now (a .ticket)) (now (a .expiry)) (a .i) _ _ p q, sym (c .before .place-sound .ensures) ∙ c .if1 .left)
 
 pub share-sound-spec : {M : Type 1} → statement M
@@ -79,13 +78,13 @@ share-sound-spec =
     tie.close
     (tie.spec
     mul-t
-    element-copy-out-t
+    shared-slice-read-t
     mul-place-sound
-    element-copy-out-place-sound
+    shared-slice-read-place-sound
     place-sound-requires
     ticket-once-requires
     mul-expiry-in
-    element-copy-out-expiry-in
+    shared-slice-read-expiry-in
     expiry-in-requires
     both-requires
     both-requires-2

@@ -1,12 +1,14 @@
 use borrow.Author.Needs.{needs}
-use mathlib.Core.Path.{_≡_, refl, sym, _∙_}
-use mathlib.Core.Bool.{Bool, true, false}
-use Prim.Native.Nat.{ℕ, _^_, _≤_, _<_}
+use mathlib.Core.Path.{_≡_, sym, _∙_}
+use mathlib.Core.Bool.{Bool, true}
+use Prim.Native.Nat.{_^_, _<_}
 use lib.Dec.{leb, ltb}
+use denote.Ref.{now}
 use Rattle.lists.specs.Ranges.{Edge}
-use Rattle.lists.proofs.Tests.{both-true, leb-true, ltb-true}
+use Rattle.lists.proofs.Tests.{both-true, ltb-true}
 use Rattle.book.specs.declared.types.Book.{Book}
 use Rattle.book.specs.Sound.{both, among, in-range, counters-in, entries-sound, sound}
+use Rattle.soundness.specs.Entries.{bookWith}
 use Rattle.book.proofs.SoundBook.{among-true}
 use Rattle.book.proofs.Entries.{both-both}
 use Rattle.soundness.proofs.sound.Statement.{statement}
@@ -39,47 +41,43 @@ grounds b e =
     let s = both-true (leb (b .issued) 65535) (ltb (b .latest) (2 ^ 48)) (q .1) in
     record { size-in = among-true 50 (b .size) (r .0); shares-in = among-true 32 (b .shares) (r .1); latest-in = ltb-true (b .latest) (2 ^ 48) (s .1) }
 
-ranged : (c : tie.After-both2) → c .both2 .result ≡ numbers (c .before .before .before .before .before .args .b)
+-- the book that is looked at
+abbrev lent : tie.Start → Book
+lent c = bookWith (c .args .h) (now (c .args .next)) (now (c .args .ticket)) (now (c .args .expiry))
+
+ranged : (c : tie.After-both2) → c .both2 .result ≡ numbers (lent (c .before .before .before .before .before .before .before .before))
 ranged c = rw (c .both2 .ensures, c .before .counters-in .ensures, c .before .before .both .ensures, c .before .before .before .among2 .ensures, c .before .before .before .before .among .ensures)
 
--- src/lib.rt:137:22
 among-requires : tie.Need-among-requires
 among-requires c κs = search needs
 
--- src/lib.rt:137:41
 among-requires-2 : tie.Need-among-requires-2
 among-requires-2 c κs = search needs
 
--- src/lib.rt:137:9
 both-requires : tie.Need-both-requires
 both-requires c κs = search needs
 
--- src/lib.rt:138:20
 counters-in-requires : tie.Need-counters-in-requires
 counters-in-requires c κs = search needs
 
--- src/lib.rt:138:8
 both-requires-2 : tie.Need-both-requires-2
 both-requires-2 c κs = search needs
 
--- src/lib.rt:139:33
 count-of-requires : tie.Need-count-of-requires
-count-of-requires c κs = let g = c .before in grounds (g .before .before .before .before .before .args .b) (sym (ranged g) ∙ c .if1 .taken) .size-in
+count-of-requires c κs = grounds (lent (c .before .before .before .before .before .before .before .before .before)) (sym (ranged (c .before)) ∙ c .if1 .taken) .size-in
 
--- src/lib.rt:139:9
 entries-sound-requires : tie.Need-entries-sound-requires
 entries-sound-requires c κs =
     let g = c .before .before in
-    let s = grounds (g .before .before .before .before .before .args .b) (sym (ranged g) ∙ c .before .if1 .taken) in
-    (c .count-of .ensures .0, c .count-of .ensures .1, s .shares-in, s .latest-in)
+    let o = g .before .before .before .before .before .before .before .before in
+    let s = grounds (lent o) (sym (ranged g) ∙ c .before .if1 .taken) in
+    (c .count-of .ensures .0, c .count-of .ensures .1, s .shares-in, s .latest-in, o .pre)
 
--- src/lib.rt:139:9
 returns : tie.Need-returns
 returns c =
     let g = c .before .before .before in
     rw (c .entries-sound .ensures, sound-tests, sym (ranged g) ∙ c .before .before .if1 .taken)
 
--- src/lib.rt:134:1
 returns-2 : tie.Need-returns-2
 returns-2 c = rw (sound-tests, sym (ranged (c .before)) ∙ c .if1 .left)
 

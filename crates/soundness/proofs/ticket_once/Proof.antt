@@ -1,6 +1,6 @@
 -- `ticket_once` compares the ticket with all before it.
 use borrow.Author.Needs.{needs}
-use mathlib.Core.Path.{_≡_, refl, sym, _∙_, ap}
+use mathlib.Core.Path.{_≡_, refl, sym, ap}
 use mathlib.Core.Bool.{Bool, true, false}
 use mathlib.Core.List.{List}
 use Prim.Native.Nat.{ℕ, suc, _+_, _-_, _≤_}
@@ -41,8 +41,8 @@ abbrev μ-loop : tie.MeasureT-loop
 mul-t : tie.Need-mul-t Inv-loop μ-loop
 mul-t c = omega arith
 
-element-copy-out-t : tie.Need-element-copy-out-t Inv-loop μ-loop
-element-copy-out-t c = omega arith
+shared-slice-read-t : tie.Need-shared-slice-read-t Inv-loop μ-loop
+shared-slice-read-t c = omega arith
 
 loop-holds : tie.Need-loop-holds Inv-loop μ-loop
 loop-holds c = (omega arith, refl)
@@ -50,8 +50,8 @@ loop-holds c = (omega arith, refl)
 mul-either : tie.Need-mul-either Inv-loop μ-loop
 mul-either c = omega arith
 
-element-copy-out-either : tie.Need-element-copy-out-either Inv-loop μ-loop
-element-copy-out-either c = omega arith
+shared-slice-read-either : tie.Need-shared-slice-read-either Inv-loop μ-loop
+shared-slice-read-either c = omega arith
 
 either-requires : tie.Need-either-requires Inv-loop μ-loop
 either-requires c κs = search needs
@@ -64,7 +64,7 @@ loop-less c = omega arith
 
 loop-again : tie.Need-loop-again Inv-loop μ-loop
 loop-again c =
-    let a = c .before .before .before .before .before .args in
+    let a = c .before .before .before .before .before .before .args in
     let l = c .before .before .before .loop in
     (omega arith, rw (c .either .ensures) (more (now (a .ticket)) (a .i) (l .m) (l .again) (l .inv .1)))
 
@@ -76,7 +76,7 @@ either-requires-2 c κs = search needs
 
 returns : tie.Need-returns Inv-loop μ-loop
 returns c =
-    let a = c .before .before .before .before .before .args in
+    let a = c .before .before .before .before .before .before .args in
     let l = c .before .before .before .loop in
     rw (c .either2 .ensures, c .before .not .ensures) (all (now (a .ticket)) (a .i) (l .m) (l .again) (c .before .before .loop-test .left) (l .inv .0) (l .inv .1))
 
@@ -87,10 +87,10 @@ ticket-once-spec =
     Inv-loop
     μ-loop
     mul-t
-    element-copy-out-t
+    shared-slice-read-t
     loop-holds
     mul-either
-    element-copy-out-either
+    shared-slice-read-either
     either-requires
     add-m
     loop-less

@@ -7,33 +7,27 @@ use Rattle.asking.proofs.claims.claim_number.Tie as tie
 use Rattle.asking.proofs.claims.claim_number.Reads as reads
 use Rattle.asking.proofs.claims.claim_number.Lts as lts
 use Rattle.asking.proofs.claims.place_number.Reads as place-number-reads
-use Rattle.soundness.proofs.sound.Reads as sound-reads
 use Rattle.asking.proofs.standing.tick_in.Reads as tick-in-reads
+use Rattle.soundness.proofs.sound.Reads as sound-reads
 use Rattle.soundness.proofs.tests.unless.Reads as unless-reads
 
--- src/claims.rt:50:8
 sound-requires : tie.Need-sound-requires
 sound-requires c κs = search needs
 
--- src/claims.rt:51:23
 tick-in-requires : tie.Need-tick-in-requires
 tick-in-requires c κs = search needs
 
--- src/claims.rt:51:52
 place-number-requires : tie.Need-place-number-requires
-place-number-requires c κs = sym (c .before .before .sound .ensures) ∙ c .before .if1 .taken
+place-number-requires c κs = (sym (c .before .before .sound .ensures) ∙ c .before .if1 .taken, c .before .before .before .before .before .before .pre)
 
--- src/claims.rt:51:9
 unless-requires : tie.Need-unless-requires
 unless-requires c κs = search needs
 
--- src/claims.rt:51:9
 returns : tie.Need-returns
 returns c =
     let t = c .before .before .before in
     unfold claim-number tick-in in (rw (c .unless .ensures, c .before .place-number .ensures, c .before .before .tick-in .ensures, sym (t .before .sound .ensures) ∙ t .if1 .taken) (unfold place-number share-number in refl))
 
--- src/claims.rt:47:1
 returns-2 : tie.Need-returns-2
 returns-2 c = unfold claim-number in (rw (sym (c .before .sound .ensures) ∙ c .if1 .left))
 

@@ -1,8 +1,10 @@
-use mathlib.Core.Path.{_≡_, refl, sym, _∙_}
+use mathlib.Core.Path.{_≡_, refl, _∙_}
 use Prim.Native.Nat.{ℕ, suc, pred, _+_, _-_, _*_, _^_, _≤_, _<_}
 use native.Mathlib.Numerals.{add-one}
 use native.Mathlib.Omega.{arith}
+use denote.Ref.{now}
 use Rattle.book.specs.declared.types.Book.{Book}
+use Rattle.soundness.specs.Entries.{bookWith}
 use Rattle.book.specs.Shares as shares
 use Rattle.book.specs.Shares.{first, last, next, done, committed}
 use Rattle.book.proofs.SoundBook.{SoundBook, sound-facts}
@@ -46,63 +48,56 @@ unfolding committed
 whole b i sum l u C = let e : i ≡ b .shares = omega arith in C .is ∙ rw e
 
 abbrev Inv-loop : tie.InvT-loop
-Inv-loop b total k sum₀ i₀ sum i = (i ≤ k) × Counted b i sum
+Inv-loop h nexts tickets expiries total sum₀ i₀ sum i = (i ≤ h .shares) × Counted (bookWith h nexts tickets expiries) i sum
 
 abbrev μ-loop : tie.MeasureT-loop
-μ-loop b total k sum₀ i₀ sum i = k - i
+μ-loop h nexts tickets expiries total sum₀ i₀ sum i = h .shares - i
 
-next-step : (c : tie.After-last-of Inv-loop μ-loop) → Step (c .before .before .before .before .before .args .t1) (c .before .before .before .loop .i) (c .before .before .before .loop .sum) (c .last-of .result)
+-- the book that is looked at
+abbrev lent : tie.Start Inv-loop μ-loop → Book
+lent c = bookWith (c .args .h) (now (c .args .nexts)) (now (c .args .tickets)) (now (c .args .expiries))
+
+next-step : (c : tie.After-last-of Inv-loop μ-loop) → Step (lent (c .before .before .before .before .before .before .before .before .before)) (c .before .before .before .before .loop .i) (c .before .before .before .before .loop .sum) (c .last-of .result)
 next-step c =
-    let a = c .before .before .before .before .before in
-    step (a .args .t1) (c .before .before .before .loop .i) (c .before .before .before .loop .sum) (c .last-of .result) (sound-facts (a .args .t1) (a .pre)) (c .before .before .loop-test .taken) (c .last-of .ensures .0 (a .args .t1 .size) (c .before .before .before .before .count-of .ensures .0)) (c .before .before .before .loop .inv .1)
+    let a = c .before .before .before .before .before .before .before .before .before in
+    let l = c .before .before .before .before .loop in
+    step (lent a) (l .i) (l .sum) (c .last-of .result) (sound-facts (lent a) (a .pre .0)) (c .before .before .if1 .taken) (c .last-of .ensures .0 (a .args .h .size) (c .before .before .before .before .before .count-of .ensures .0)) (l .inv .1)
 
--- src/progress.rt:15:9
 count-of-requires : tie.Need-count-of-requires Inv-loop μ-loop
-count-of-requires c κs = sound-facts (c .args .t1) (c .pre) .size-in
+count-of-requires c κs = let s = c .before .before .before in sound-facts (lent s) (s .pre .0) .size-in
 
--- src/progress.rt:19:5
 loop-holds : tie.Need-loop-holds Inv-loop μ-loop
 loop-holds c = (omega arith, record { is = refl; small = omega arith })
 
--- src/progress.rt:21:16
 mul-sum : tie.Need-mul-sum Inv-loop μ-loop
-mul-sum c = let S = sound-facts (c .before .before .before .args .t1) (c .before .before .before .pre) in omega arith
+mul-sum c = let s = c .before .before .before .before .before .before .before in let S = sound-facts (lent s) (s .pre .0) in omega arith
 
--- src/progress.rt:21:16
-element-copy-out-sum : tie.Need-element-copy-out-sum Inv-loop μ-loop
-element-copy-out-sum c = let S = sound-facts (c .before .before .before .args .t1) (c .before .before .before .pre) in omega arith
+shared-slice-read-sum : tie.Need-shared-slice-read-sum Inv-loop μ-loop
+shared-slice-read-sum c = let s = c .before .before .before .before .before .before .before .before in let S = sound-facts (lent s) (s .pre .0) in omega (arith, s .pre .1 .0)
 
--- src/progress.rt:21:30
 last-of-requires : tie.Need-last-of-requires Inv-loop μ-loop
-last-of-requires c κs = let S = sound-facts (c .before .before .before .before .args .t1) (c .before .before .before .before .pre) in (c .before .before .before .count-of .ensures .1, S .shares-in, omega arith)
+last-of-requires c κs = let s = c .before .before .before .before .before .before .before .before in let S = sound-facts (lent s) (s .pre .0) in (c .before .before .before .before .count-of .ensures .1, S .shares-in, omega arith)
 
--- src/progress.rt:21:30
 add-sum : tie.Need-add-sum Inv-loop μ-loop
 add-sum c = omega arith
 
--- src/progress.rt:21:16
 sub-sum : tie.Need-sub-sum Inv-loop μ-loop
 sub-sum c = let s = next-step c in omega arith
 
--- src/progress.rt:21:9
 add-sum-2 : tie.Need-add-sum-2 Inv-loop μ-loop
 add-sum-2 c = let s = next-step c in let l = s .less in omega arith
 
--- src/progress.rt:22:9
 add-i : tie.Need-add-i Inv-loop μ-loop
 add-i c = omega arith
 
--- src/progress.rt:19:5
 loop-less : tie.Need-loop-less Inv-loop μ-loop
 loop-less c = omega arith
 
--- src/progress.rt:19:5
 loop-again : tie.Need-loop-again Inv-loop μ-loop
 loop-again c = (omega arith, next-step c .counted)
 
--- src/progress.rt:11:1
 returns : tie.Need-returns Inv-loop μ-loop
-returns c = whole (c .before .before .before .args .t1) (c .before .loop .i) _ (c .loop-test .left) (c .before .loop .inv .0) (c .before .loop .inv .1)
+returns c = let l = c .before .before .loop in whole (lent (c .before .before .before .before .before .before .before)) (l .i) _ (c .if1 .left) (l .inv .0) (l .inv .1)
 
 pub committed-spec : {M : Type 1} → statement M
 committed-spec =
@@ -113,7 +108,7 @@ committed-spec =
     count-of-requires
     loop-holds
     mul-sum
-    element-copy-out-sum
+    shared-slice-read-sum
     last-of-requires
     add-sum
     sub-sum

@@ -1,11 +1,13 @@
-use mathlib.Core.Path.{_≡_, refl, sym, _∙_}
+use mathlib.Core.Path.{_≡_, refl, sym}
 use mathlib.Core.Bool.{true, false}
 use Prim.Native.Nat.{ℕ, suc, _+_, _-_, _≤_, _<_}
 use native.Mathlib.Numerals.{add-one}
 use native.Mathlib.Omega.{arith}
 use Rattle.lists.specs.Ranges.{every}
 use Rattle.lists.proofs.Tests.{lt-true, lt-false}
+use denote.Ref.{now}
 use Rattle.book.specs.declared.types.Book.{Book}
+use Rattle.soundness.specs.Entries.{bookWith}
 use Rattle.book.specs.Shares.{last, next, finished, complete}
 use Rattle.book.proofs.Entries.{every-false}
 use Rattle.book.proofs.SoundBook.{sound-facts}
@@ -30,58 +32,51 @@ unfolding complete
 whole b i l u h = let e : i ≡ b .shares = omega arith in sym (rw e at h)
 
 abbrev Inv-loop : tie.InvT-loop
-Inv-loop b total k i₀ i = (i ≤ k) × (every i (finished b) ≡ true)
+Inv-loop h nexts tickets expiries total i₀ i = (i ≤ h .shares) × (every i (finished (bookWith h nexts tickets expiries)) ≡ true)
 
 abbrev μ-loop : tie.MeasureT-loop
-μ-loop b total k i₀ i = k - i
+μ-loop h nexts tickets expiries total i₀ i = h .shares - i
 
--- src/progress.rt:32:9
+-- the book that is looked at
+abbrev lent : tie.Start Inv-loop μ-loop → Book
+lent c = bookWith (c .args .h) (now (c .args .nexts)) (now (c .args .tickets)) (now (c .args .expiries))
+
 count-of-requires : tie.Need-count-of-requires Inv-loop μ-loop
-count-of-requires c κs = sound-facts (c .args .t1) (c .pre) .size-in
+count-of-requires c κs = let s = c .before .before .before in sound-facts (lent s) (s .pre .0) .size-in
 
--- src/progress.rt:35:5
 loop-holds : tie.Need-loop-holds Inv-loop μ-loop
 loop-holds c = (omega arith, refl)
 
--- src/progress.rt:37:12
-mul-if1 : tie.Need-mul-if1 Inv-loop μ-loop
-mul-if1 c = let S = sound-facts (c .before .before .before .args .t1) (c .before .before .before .pre) in omega arith
+mul-if2 : tie.Need-mul-if2 Inv-loop μ-loop
+mul-if2 c = let s = c .before .before .before .before .before .before .before in let S = sound-facts (lent s) (s .pre .0) in omega arith
 
--- src/progress.rt:37:12
-element-copy-out-if1 : tie.Need-element-copy-out-if1 Inv-loop μ-loop
-element-copy-out-if1 c = let S = sound-facts (c .before .before .before .args .t1) (c .before .before .before .pre) in omega arith
+shared-slice-read-if2 : tie.Need-shared-slice-read-if2 Inv-loop μ-loop
+shared-slice-read-if2 c = let s = c .before .before .before .before .before .before .before .before in let S = sound-facts (lent s) (s .pre .0) in omega (arith, s .pre .1 .0)
 
--- src/progress.rt:37:44
 add-last-of : tie.Need-add-last-of Inv-loop μ-loop
 add-last-of c = omega arith
 
--- src/progress.rt:37:26
 last-of-requires : tie.Need-last-of-requires Inv-loop μ-loop
-last-of-requires c κs = let S = sound-facts (c .before .before .before .before .args .t1) (c .before .before .before .before .pre) in (c .before .before .before .count-of .ensures .1, S .shares-in, omega arith)
+last-of-requires c κs = let s = c .before .before .before .before .before .before .before .before in let S = sound-facts (lent s) (s .pre .0) in (c .before .before .before .before .count-of .ensures .1, S .shares-in, omega arith)
 
--- src/progress.rt:38:13
+-- where share i + 1 ends
+end : (c : tie.After-last-of Inv-loop μ-loop) → c .last-of .result ≡ last (c .before .before .before .before .before .before .before .before .before .args .h .size) (c .before .before .before .before .before .before .before .before .before .args .h .shares) (c .before .before .before .before .loop .i + 1)
+end c = c .last-of .ensures .0 (c .before .before .before .before .before .before .before .before .before .args .h .size) (c .before .before .before .before .before .count-of .ensures .0)
+
 returns : tie.Need-returns Inv-loop μ-loop
-returns c =
-    let a = c .before .before .before .before .before .before .args .t1 in
-    sym (one-left a (c .before .before .before .before .loop .i) _ (c .before .before .before .loop-test .taken) (c .before .last-of .ensures .0 (a .size) (c .before .before .before .before .before .count-of .ensures .0)) (c .if1 .taken))
+returns c = sym (one-left (lent (c .before .before .before .before .before .before .before .before .before .before)) (c .before .before .before .before .before .loop .i) _ (c .before .before .before .if1 .taken) (end (c .before)) (c .if2 .taken))
 
--- src/progress.rt:40:9
 add-i : tie.Need-add-i Inv-loop μ-loop
 add-i c = omega arith
 
--- src/progress.rt:35:5
 loop-less : tie.Need-loop-less Inv-loop μ-loop
 loop-less c = omega arith
 
--- src/progress.rt:35:5
 loop-again : tie.Need-loop-again Inv-loop μ-loop
-loop-again c =
-    let a = c .before .before .before .before .before .before .args .t1 in
-    (omega arith, one-more a (c .before .before .before .before .loop .i) _ (c .before .last-of .ensures .0 (a .size) (c .before .before .before .before .before .count-of .ensures .0)) (c .if1 .left) (c .before .before .before .before .loop .inv .1))
+loop-again c = let l = c .before .before .before .before .before .loop in (omega arith, one-more (lent (c .before .before .before .before .before .before .before .before .before .before)) (l .i) _ (end (c .before)) (c .if2 .left) (l .inv .1))
 
--- src/progress.rt:28:1
 returns-2 : tie.Need-returns-2 Inv-loop μ-loop
-returns-2 c = whole (c .before .before .before .args .t1) (c .before .loop .i) (c .loop-test .left) (c .before .loop .inv .0) (c .before .loop .inv .1)
+returns-2 c = let l = c .before .before .loop in whole (lent (c .before .before .before .before .before .before .before)) (l .i) (c .if1 .left) (l .inv .0) (l .inv .1)
 
 pub complete-spec : {M : Type 1} → statement M
 complete-spec =
@@ -91,8 +86,8 @@ complete-spec =
     μ-loop
     count-of-requires
     loop-holds
-    mul-if1
-    element-copy-out-if1
+    mul-if2
+    shared-slice-read-if2
     add-last-of
     last-of-requires
     returns

@@ -1,5 +1,5 @@
 use borrow.Author.Needs.{needs}
-use mathlib.Core.Path.{_≡_, refl, sym, _∙_}
+use mathlib.Core.Path.{_≡_, sym, _∙_}
 use mathlib.Core.Logic.{_≢_}
 use mathlib.Core.Bool.{true, false}
 use Prim.Native.Nat.{ℕ, _^_, _≤_, _<_}
@@ -8,7 +8,9 @@ use lib.Dec.{leb, ltb}
 use borrow.Author.Tests.{not-true, not-false}
 use Rattle.lists.specs.Ranges.{Edge}
 use Rattle.lists.proofs.Tests.{eqb-eq, eqb-ne, le-true, le-false}
+use denote.Ref.{now}
 use Rattle.book.specs.declared.types.Book.{Book}
+use Rattle.soundness.specs.Entries.{bookWith}
 use Rattle.book.specs.Shares.{expiry, holder, lapsed}
 use Rattle.book.specs.Sound.{both, sound}
 use Rattle.book.specs.Calls.{tick-in, ticket-number}
@@ -46,65 +48,63 @@ module _ (b : Book) (tick t : ℕ) where
       unfolding ticket-number tick-in lapsed
       stands h l rest = rw (s, e, eqb-ne _ _ h, le-false _ _ l)
 
-is-sound : (c : tie.Else1) → sound (c .before .before .args .t1) ≡ true
+-- the book that is looked at
+abbrev lent : tie.Start → Book
+lent c = bookWith (c .args .h) (now (c .args .nexts)) (now (c .args .tickets)) (now (c .args .expiries))
+
+is-sound : (c : tie.Else1) → sound (lent (c .before .before .before .before .before)) ≡ true
 is-sound c = sym (c .before .sound .ensures) ∙ not-false _ (c .if1 .left)
 
-in-time : (c : tie.Else2) → both (leb (c .before .before .before .before .args .t1 .latest) (c .before .before .before .before .args .tick)) (ltb (c .before .before .before .before .args .tick) (2 ^ 48)) ≡ true
+in-time : (c : tie.Else2) → both (leb (c .before .before .before .before .before .before .before .args .h .latest) (c .before .before .before .before .before .before .before .args .tick)) (ltb (c .before .before .before .before .before .before .before .args .tick) (2 ^ 48)) ≡ true
 in-time c = sym (c .before .tick-in .ensures) ∙ not-false _ (c .if2 .left)
 
-somewhere : (c : tie.Else3) → holder (c .before .before .before .before .before .before .args .t1) (c .before .before .before .before .before .before .args .ticket) ≢ 0
-somewhere c = rw (c .before .holder .ensures) at (c .if3 .left)
+share-is : (c : tie.After-holder) → c .holder .result ≡ holder (lent (c .before .before .before .before .before .before .before .before)) (c .before .before .before .before .before .before .before .before .args .ticket)
+share-is c = c .holder .ensures (now (c .before .before .before .before .before .before .before .before .args .nexts)) (now (c .before .before .before .before .before .before .before .before .args .expiries))
+
+somewhere : (c : tie.Else3) → holder (lent (c .before .before .before .before .before .before .before .before .before)) (c .before .before .before .before .before .before .before .before .before .args .ticket) ≢ 0
+somewhere c = rw (share-is (c .before)) at (c .if3 .left)
 
 held : (c : tie.Else3) → Edge 32 (c .before .holder .result)
 held c =
-    let a = c .before .before .before .before .before .before .args in
-    let q = holder-stands (a .t1) (a .ticket) (somewhere c) .share-in in
-    let k = sound-facts (a .t1) (is-sound (c .before .before .before .before)) .shares-in in
-    rw (c .before .holder .ensures) (omega arith)
+    let s = c .before .before .before .before .before .before .before .before .before in
+    let q = holder-stands (lent s) (s .args .ticket) (somewhere c) .share-in in
+    let k = sound-facts (lent s) (is-sound (c .before .before .before .before)) .shares-in in
+    rw (share-is (c .before)) (omega arith)
 
--- src/standing.rt:48:9
 sound-requires : tie.Need-sound-requires
 sound-requires c κs = search needs
 
--- src/standing.rt:49:9
 returns : tie.Need-returns
-returns c = let a = c .before .before .args in (λ z. omega arith, unsound (a .t1) (a .tick) (a .ticket) (sym (c .before .sound .ensures) ∙ not-true _ (c .if1 .taken)))
+returns c = let s = c .before .before .before .before .before in (λ z. omega arith, unsound (lent s) (s .args .tick) (s .args .ticket) (sym (c .before .sound .ensures) ∙ not-true _ (c .if1 .taken)))
 
--- src/standing.rt:51:9
 tick-in-requires : tie.Need-tick-in-requires
 tick-in-requires c κs = search needs
 
--- src/standing.rt:52:9
 returns-2 : tie.Need-returns-2
 returns-2 c =
-    let a = c .before .before .before .before .args in
-    (λ z. omega arith, untimely (a .t1) (a .tick) (a .ticket) (is-sound (c .before .before)) (sym (c .before .tick-in .ensures) ∙ not-true _ (c .if2 .taken)))
+    let s = c .before .before .before .before .before .before .before in
+    (λ z. omega arith, untimely (lent s) (s .args .tick) (s .args .ticket) (is-sound (c .before .before)) (sym (c .before .tick-in .ensures) ∙ not-true _ (c .if2 .taken)))
 
--- src/standing.rt:54:9
 holder-requires : tie.Need-holder-requires
-holder-requires c κs = sound-facts (c .before .before .before .before .args .t1) (is-sound (c .before .before)) .shares-in .1
+holder-requires c κs = (sound-facts (lent (c .before .before .before .before .before .before .before)) (is-sound (c .before .before)) .shares-in .1, c .before .before .before .before .before .before .before .pre .1)
 
--- src/standing.rt:56:9
 returns-3 : tie.Need-returns-3
 returns-3 c =
-    let a = c .before .before .before .before .before .before .args in
-    (λ z. omega arith, nowhere (a .t1) (a .tick) (a .ticket) (is-sound (c .before .before .before .before)) (in-time (c .before .before)) (sym (c .before .holder .ensures) ∙ c .if3 .taken))
+    let s = c .before .before .before .before .before .before .before .before .before in
+    (λ z. omega arith, nowhere (lent s) (s .args .tick) (s .args .ticket) (is-sound (c .before .before .before .before)) (in-time (c .before .before)) (sym (share-is (c .before)) ∙ c .if3 .taken))
 
--- src/standing.rt:58:8
 entry-requires : tie.Need-entry-requires
-entry-requires c κs = held (c .before .before)
+entry-requires c κs = (held c, c .before .before .before .before .before .before .before .before .before .pre .2)
 
--- src/standing.rt:59:9
 returns-4 : tie.Need-returns-4
 returns-4 c =
-    let a = c .before .before .before .before .before .before .before .before .before .before .args in
-    (λ z. omega arith, gone (a .t1) (a .tick) (a .ticket) (is-sound (c .before .before .before .before .before .before .before .before)) (in-time (c .before .before .before .before .before .before)) (somewhere (c .before .before .before .before)) (rw (c .before .entry .ensures, c .before .before .before .before .before .holder .ensures) at (c .if4 .taken)))
+    let s = c .before .before .before .before .before .before .before .before .before .before .before in
+    (λ z. omega arith, gone (lent s) (s .args .tick) (s .args .ticket) (is-sound (c .before .before .before .before .before .before)) (in-time (c .before .before .before .before)) (somewhere (c .before .before)) (rw (c .before .entry .ensures, share-is (c .before .before .before)) at (c .if4 .taken)))
 
--- src/standing.rt:45:1
 returns-5 : tie.Need-returns-5
 returns-5 c =
-    let a = c .before .before .before .before .before .before .before .before .before .before .args in
-    (c .before .before .before .before .before .holder .ensures, stands (a .t1) (a .tick) (a .ticket) (is-sound (c .before .before .before .before .before .before .before .before)) (in-time (c .before .before .before .before .before .before)) (somewhere (c .before .before .before .before)) (rw (c .before .entry .ensures, c .before .before .before .before .before .holder .ensures) at (c .if4 .left)))
+    let s = c .before .before .before .before .before .before .before .before .before .before .before in
+    (share-is (c .before .before .before), stands (lent s) (s .args .tick) (s .args .ticket) (is-sound (c .before .before .before .before .before .before)) (in-time (c .before .before .before .before)) (somewhere (c .before .before)) (rw (c .before .entry .ensures, share-is (c .before .before .before)) at (c .if4 .left)))
 
 pub ask-spec : {M : Type 1} → statement M
 ask-spec =

@@ -1,10 +1,14 @@
-use mathlib.Core.Path.{_≡_, refl, sym, _∙_}
+use mathlib.Core.Path.{_≡_, refl, _∙_}
 use mathlib.Core.Logic.{_≢_}
+use mathlib.Core.List.{List}
 use Prim.Native.Nat.{ℕ, zero, suc, _-_, _≤_, _<_}
 use native.Mathlib.Omega.{arith}
 use lib.ListN.{getD}
 use Rattle.lists.proofs.Tests.{eqb-eq, eqb-ne}
+use denote.Ref.{now}
 use Rattle.book.specs.declared.types.Book.{Book}
+use Rattle.book.specs.declared.types.Heads.{Heads}
+use Rattle.soundness.specs.Entries.{bookWith}
 use Rattle.book.specs.Shares.{standing, holder}
 use Rattle.asking.proofs.standing.holder.Statement.{statement}
 use Rattle.asking.proofs.standing.holder.Tie as tie
@@ -27,50 +31,50 @@ unfolding holder
 nowhere b t j n h q = let d : j ≡ 0 = omega arith in rw (eqb-ne _ _ n) (rw d at q)
 
 abbrev Inv-loop : tie.InvT-loop
-Inv-loop ticket b j₀ j = (j ≤ b .shares) × (standing b ticket j ≡ standing b ticket (b .shares))
+Inv-loop tickets ticket j₀ j = (j ≤ j₀) × ((h : Heads) (p e : List ℕ) → standing (bookWith h p tickets e) ticket j ≡ standing (bookWith h p tickets e) ticket j₀)
 
 abbrev μ-loop : tie.MeasureT-loop
-μ-loop ticket b j₀ j = j
+μ-loop tickets ticket j₀ j = j
 
--- src/standing.rt:32:9
+-- the book of the lent tickets with any other lists
+abbrev lent : tie.Start Inv-loop μ-loop → List ℕ → List ℕ → Book
+lent c p e = bookWith (c .args .h) p (now (c .args .tickets)) e
+
 returns : tie.Need-returns Inv-loop μ-loop
-returns c = unfold holder in (rw (eqb-eq (c .before .args .ticket) 0 (c .if1 .taken)))
+returns c p e = unfold holder in (rw (eqb-eq (c .before .args .ticket) 0 (c .if1 .taken)))
 
--- src/standing.rt:35:5
 loop-holds : tie.Need-loop-holds Inv-loop μ-loop
-loop-holds c = (omega arith, refl)
+loop-holds c = (omega arith, λ h p e. refl)
 
--- src/standing.rt:36:18
 sub-i : tie.Need-sub-i Inv-loop μ-loop
 sub-i c = omega arith
 
--- src/standing.rt:37:12
 mul-if2 : tie.Need-mul-if2 Inv-loop μ-loop
 mul-if2 c = omega arith
 
--- src/standing.rt:37:12
-element-copy-out-if2 : tie.Need-element-copy-out-if2 Inv-loop μ-loop
-element-copy-out-if2 c = omega arith
+shared-slice-read-if2 : tie.Need-shared-slice-read-if2 Inv-loop μ-loop
+shared-slice-read-if2 c = omega arith
 
--- src/standing.rt:38:13
 returns-2 : tie.Need-returns-2 Inv-loop μ-loop
-returns-2 c = let a = c .before .before .before .before .before .args in found (a .t1) (a .ticket) (c .before .before .before .loop .j) (c .before .before .before .before .if1 .left) (c .before .before .loop-test .taken) (c .if2 .taken) (c .before .before .before .loop .inv .1)
+returns-2 c p e =
+    let s = c .before .before .before .before .before in
+    let l = c .before .before .before .loop in
+    found (lent s p e) (s .args .ticket) (l .j) (c .before .before .before .before .if1 .left) (c .before .before .loop-test .taken) (c .if2 .taken) (l .inv .1 (s .args .h) p e)
 
--- src/standing.rt:40:9
 sub-j : tie.Need-sub-j Inv-loop μ-loop
 sub-j c = omega arith
 
--- src/standing.rt:35:5
 loop-less : tie.Need-loop-less Inv-loop μ-loop
 loop-less c = omega arith
 
--- src/standing.rt:35:5
 loop-again : tie.Need-loop-again Inv-loop μ-loop
-loop-again c = let a = c .before .before .before .before .before .args in (omega arith, further (a .t1) (a .ticket) (c .before .before .before .loop .j) (c .before .before .loop-test .taken) (c .if2 .left) ∙ c .before .before .before .loop .inv .1)
+loop-again c =
+    let s = c .before .before .before .before .before in
+    let l = c .before .before .before .loop in
+    (omega arith, λ h p e. further (bookWith h p (now (s .args .tickets)) e) (s .args .ticket) (l .j) (c .before .before .loop-test .taken) (c .if2 .left) ∙ l .inv .1 h p e)
 
--- src/standing.rt:27:1
 returns-3 : tie.Need-returns-3 Inv-loop μ-loop
-returns-3 c = let a = c .before .before .before .args in nowhere (a .t1) (a .ticket) (c .before .loop .j) (c .before .before .if1 .left) (c .loop-test .left) (c .before .loop .inv .1)
+returns-3 c p e = let s = c .before .before .before in nowhere (lent s p e) (s .args .ticket) (c .before .loop .j) (c .before .before .if1 .left) (c .loop-test .left) (c .before .loop .inv .1 (s .args .h) p e)
 
 pub holder-spec : {M : Type 1} → statement M
 holder-spec =
@@ -82,7 +86,7 @@ holder-spec =
     loop-holds
     sub-i
     mul-if2
-    element-copy-out-if2
+    shared-slice-read-if2
     returns-2
     sub-j
     loop-less

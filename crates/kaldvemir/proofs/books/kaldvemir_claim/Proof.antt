@@ -1,55 +1,85 @@
-use Rattle.book.specs.declared.types.Claiming.{Claiming}
-use denote.Ref.{now}
+use borrow.Author.Needs.{needs}
+use mathlib.Core.Path.{_∙_, ap}
 use Rattle.layout.specs.Layout.{book-numbers}
 use Rattle.kaldvemir.specs.Answers as answers
-use mathlib.Core.Path.{_≡_, refl, sym, _∙_, ap}
-use borrow.Author.Needs.{needs}
+use denote.Ref.{now}
+use Rattle.book.specs.declared.types.Claiming.{Claiming}
 use Rattle.kaldvemir.proofs.books.kaldvemir_claim.Statement.{statement}
 use Rattle.kaldvemir.proofs.books.kaldvemir_claim.Tie as tie
 use Rattle.kaldvemir.proofs.books.kaldvemir_claim.Reads as reads
 use Rattle.kaldvemir.proofs.books.kaldvemir_claim.Lts as lts
+use Rattle.cores.proofs.decisions.claim.Reads as claim-reads
 use Rattle.kaldvemir.proofs.answers.claim_number.Reads as claim-number-reads
 use Rattle.kaldvemir.proofs.answers.claim_ticket.Reads as claim-ticket-reads
-use Rattle.layout.proofs.books.held.Reads as held-reads
-use Rattle.layout.proofs.books.put_back.Reads as put-back-reads
-use Rattle.cores.proofs.claim_core.Reads as claim-core-reads
+use Rattle.layout.proofs.books.change.Reads as change-reads
+use Rattle.layout.proofs.books.heads.Reads as heads-reads
 
--- src/books.rt:114:27
-held-requires : tie.Need-held-requires
-held-requires c κs = search needs
+heads-requires : tie.Need-heads-requires
+heads-requires c κs = search needs
 
--- src/books.rt:114:9
-claim-core-requires : tie.Need-claim-core-requires
-claim-core-requires c κs = search needs
+sub-claim : tie.Need-sub-claim
+sub-claim c = search needs
 
--- src/books.rt:116:5
-put-back-requires : tie.Need-put-back-requires
-put-back-requires c κs = search needs
+part-claim-start : tie.Need-part-claim-start
+part-claim-start c = search needs
 
--- src/books.rt:117:15
+part-claim-end : tie.Need-part-claim-end
+part-claim-end c = search needs
+
+sub-claim-2 : tie.Need-sub-claim-2
+sub-claim-2 c = search needs
+
+part-claim-start-2 : tie.Need-part-claim-start-2
+part-claim-start-2 c = search needs
+
+part-claim-end-2 : tie.Need-part-claim-end-2
+part-claim-end-2 c = search needs
+
+sub-claim-3 : tie.Need-sub-claim-3
+sub-claim-3 c = search needs
+
+part-claim-start-3 : tie.Need-part-claim-start-3
+part-claim-start-3 c = search needs
+
+part-claim-end-3 : tie.Need-part-claim-end-3
+part-claim-end-3 c = search needs
+
+claim-requires : tie.Need-claim-requires
+claim-requires c κs = search needs
+
+change-requires : tie.Need-change-requires
+change-requires c κs = search needs
+
 claim-ticket-requires : tie.Need-claim-ticket-requires
 claim-ticket-requires c κs = search needs
 
--- src/books.rt:118:5
 claim-number-requires : tie.Need-claim-number-requires
 claim-number-requires c κs = search needs
 
--- src/books.rt:102:1
 returns : tie.Need-returns
 returns c =
-    let k = rw (c .before .before .before .before .before .before .held .ensures .0) at (c .before .before .before .before .before .claim-core .ensures) in (
+    let k = rw (c .before .before .before .before .before .before .before .before .before .heads .ensures) at (c .before .before .before .before .before .claim .ensures) in (
       c .claim-number .ensures ∙ ap answers.claim-number (k .0),
-      c .before .claim-ticket .ensures ∙ ap (λ (a : Claiming). answers.claim-ticket a (now (c .before .before .before .before .before .before .before .before .args .ticket))) (k .0),
-      c .before .before .before .put-back .ensures ∙ ap book-numbers (k .1),
+      c .before .claim-ticket .ensures ∙ ap (λ (a : Claiming). answers.claim-ticket a (now (c .before .before .before .before .before .before .before .before .before .before .before .before .args .ticket))) (k .0),
+      c .before .before .before .change .ensures ∙ ap book-numbers (k .1),
     )
 
 pub kaldvemir-claim-spec : {M : Type 1} → statement M
 kaldvemir-claim-spec =
     tie.close
     (tie.spec
-    held-requires
-    claim-core-requires
-    put-back-requires
+    heads-requires
+    sub-claim
+    part-claim-start
+    part-claim-end
+    sub-claim-2
+    part-claim-start-2
+    part-claim-end-2
+    sub-claim-3
+    part-claim-start-3
+    part-claim-end-3
+    claim-requires
+    change-requires
     claim-ticket-requires
     claim-number-requires
     returns)

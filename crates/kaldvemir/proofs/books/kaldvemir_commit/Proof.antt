@@ -1,39 +1,75 @@
+use borrow.Author.Needs.{needs}
+use mathlib.Core.Path.{_∙_, ap}
 use Rattle.layout.specs.Layout.{book-numbers}
 use Rattle.kaldvemir.specs.Answers as answers
-use mathlib.Core.Path.{_≡_, refl, sym, _∙_, ap}
-use borrow.Author.Needs.{needs}
 use Rattle.kaldvemir.proofs.books.kaldvemir_commit.Statement.{statement}
 use Rattle.kaldvemir.proofs.books.kaldvemir_commit.Tie as tie
 use Rattle.kaldvemir.proofs.books.kaldvemir_commit.Reads as reads
 use Rattle.kaldvemir.proofs.books.kaldvemir_commit.Lts as lts
+use Rattle.cores.proofs.decisions.commit.Reads as commit-reads
 use Rattle.kaldvemir.proofs.answers.commit_number.Reads as commit-number-reads
-use Rattle.layout.proofs.books.held.Reads as held-reads
-use Rattle.layout.proofs.books.put_back.Reads as put-back-reads
-use Rattle.cores.proofs.commit_core.Reads as commit-core-reads
+use Rattle.layout.proofs.books.change.Reads as change-reads
+use Rattle.layout.proofs.books.heads.Reads as heads-reads
 
--- src/books.rt:160:28
-held-requires : tie.Need-held-requires
-held-requires c κs = search needs
+heads-requires : tie.Need-heads-requires
+heads-requires c κs = search needs
 
--- src/books.rt:160:9
-commit-core-requires : tie.Need-commit-core-requires
-commit-core-requires c κs = search needs
+sub-commit : tie.Need-sub-commit
+sub-commit c = search needs
 
--- src/books.rt:162:5
-put-back-requires : tie.Need-put-back-requires
-put-back-requires c κs = search needs
+part-commit-start : tie.Need-part-commit-start
+part-commit-start c = search needs
 
--- src/books.rt:163:5
+part-commit-end : tie.Need-part-commit-end
+part-commit-end c = search needs
+
+sub-commit-2 : tie.Need-sub-commit-2
+sub-commit-2 c = search needs
+
+part-commit-start-2 : tie.Need-part-commit-start-2
+part-commit-start-2 c = search needs
+
+part-commit-end-2 : tie.Need-part-commit-end-2
+part-commit-end-2 c = search needs
+
+sub-commit-3 : tie.Need-sub-commit-3
+sub-commit-3 c = search needs
+
+part-commit-start-3 : tie.Need-part-commit-start-3
+part-commit-start-3 c = search needs
+
+part-commit-end-3 : tie.Need-part-commit-end-3
+part-commit-end-3 c = search needs
+
+commit-requires : tie.Need-commit-requires
+commit-requires c κs = search needs
+
+change-requires : tie.Need-change-requires
+change-requires c κs = search needs
+
 commit-number-requires : tie.Need-commit-number-requires
 commit-number-requires c κs = search needs
 
--- src/books.rt:150:1
 returns : tie.Need-returns
 returns c =
-    let k = rw (c .before .before .before .before .held .ensures .0) at (c .before .before .before .commit-core .ensures) in
-    (c .commit-number .ensures ∙ ap answers.commit-number (k .0), c .before .put-back .ensures ∙ ap book-numbers (k .1))
+    let k = rw (c .before .before .before .before .before .before .before .heads .ensures) at (c .before .before .before .commit .ensures) in
+    (c .commit-number .ensures ∙ ap answers.commit-number (k .0), c .before .change .ensures ∙ ap book-numbers (k .1))
 
 pub kaldvemir-commit-spec : {M : Type 1} → statement M
 kaldvemir-commit-spec =
     tie.close
-    (tie.spec held-requires commit-core-requires put-back-requires commit-number-requires returns)
+    (tie.spec
+    heads-requires
+    sub-commit
+    part-commit-start
+    part-commit-end
+    sub-commit-2
+    part-commit-start-2
+    part-commit-end-2
+    sub-commit-3
+    part-commit-start-3
+    part-commit-end-3
+    commit-requires
+    change-requires
+    commit-number-requires
+    returns)

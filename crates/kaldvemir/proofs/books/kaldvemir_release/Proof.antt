@@ -1,44 +1,75 @@
+use borrow.Author.Needs.{needs}
+use mathlib.Core.Path.{_∙_, ap}
 use Rattle.layout.specs.Layout.{book-numbers}
 use Rattle.kaldvemir.specs.Answers as answers
-use mathlib.Core.Path.{_≡_, refl, sym, _∙_, ap}
-use borrow.Author.Needs.{needs}
 use Rattle.kaldvemir.proofs.books.kaldvemir_release.Statement.{statement}
 use Rattle.kaldvemir.proofs.books.kaldvemir_release.Tie as tie
 use Rattle.kaldvemir.proofs.books.kaldvemir_release.Reads as reads
 use Rattle.kaldvemir.proofs.books.kaldvemir_release.Lts as lts
+use Rattle.cores.proofs.decisions.release.Reads as release-reads
 use Rattle.kaldvemir.proofs.answers.release_number.Reads as release-number-reads
-use Rattle.layout.proofs.books.held.Reads as held-reads
-use Rattle.layout.proofs.books.put_back.Reads as put-back-reads
-use Rattle.cores.proofs.release_core.Reads as release-core-reads
+use Rattle.layout.proofs.books.change.Reads as change-reads
+use Rattle.layout.proofs.books.heads.Reads as heads-reads
 
--- src/books.rt:171:29
-held-requires : tie.Need-held-requires
-held-requires c κs = search needs
+heads-requires : tie.Need-heads-requires
+heads-requires c κs = search needs
 
--- src/books.rt:171:9
-release-core-requires : tie.Need-release-core-requires
-release-core-requires c κs = search needs
+sub-release : tie.Need-sub-release
+sub-release c = search needs
 
--- src/books.rt:173:5
-put-back-requires : tie.Need-put-back-requires
-put-back-requires c κs = search needs
+part-release-start : tie.Need-part-release-start
+part-release-start c = search needs
 
--- src/books.rt:174:5
+part-release-end : tie.Need-part-release-end
+part-release-end c = search needs
+
+sub-release-2 : tie.Need-sub-release-2
+sub-release-2 c = search needs
+
+part-release-start-2 : tie.Need-part-release-start-2
+part-release-start-2 c = search needs
+
+part-release-end-2 : tie.Need-part-release-end-2
+part-release-end-2 c = search needs
+
+sub-release-3 : tie.Need-sub-release-3
+sub-release-3 c = search needs
+
+part-release-start-3 : tie.Need-part-release-start-3
+part-release-start-3 c = search needs
+
+part-release-end-3 : tie.Need-part-release-end-3
+part-release-end-3 c = search needs
+
+release-requires : tie.Need-release-requires
+release-requires c κs = search needs
+
+change-requires : tie.Need-change-requires
+change-requires c κs = search needs
+
 release-number-requires : tie.Need-release-number-requires
 release-number-requires c κs = search needs
 
--- src/books.rt:166:1
 returns : tie.Need-returns
 returns c =
-    let k = rw (c .before .before .before .before .held .ensures .0) at (c .before .before .before .release-core .ensures) in
-    (c .release-number .ensures ∙ ap answers.release-number (k .0), c .before .put-back .ensures ∙ ap book-numbers (k .1))
+    let k = rw (c .before .before .before .before .before .before .before .heads .ensures) at (c .before .before .before .release .ensures) in
+    (c .release-number .ensures ∙ ap answers.release-number (k .0), c .before .change .ensures ∙ ap book-numbers (k .1))
 
 pub kaldvemir-release-spec : {M : Type 1} → statement M
 kaldvemir-release-spec =
     tie.close
     (tie.spec
-    held-requires
-    release-core-requires
-    put-back-requires
+    heads-requires
+    sub-release
+    part-release-start
+    part-release-end
+    sub-release-2
+    part-release-start-2
+    part-release-end-2
+    sub-release-3
+    part-release-start-3
+    part-release-end-3
+    release-requires
+    change-requires
     release-number-requires
     returns)

@@ -6,21 +6,21 @@ use Rattle.soundness.proofs.shares.entry.Tie as tie
 use Rattle.soundness.proofs.shares.entry.Reads as reads
 use Rattle.soundness.proofs.shares.entry.Lts as lts
 
--- src/shares.rt:35:11
+-- src/shares.rt:60:11
 sub-result : tie.Need-sub-result
 sub-result c = search needs
 
--- src/shares.rt:35:5
+-- src/shares.rt:60:5
 mul-result : tie.Need-mul-result
 mul-result c = search needs
 
--- src/shares.rt:35:5
-element-copy-out-result : tie.Need-element-copy-out-result
-element-copy-out-result c = search needs
+-- src/shares.rt:60:5
+shared-slice-read-result : tie.Need-shared-slice-read-result
+shared-slice-read-result c = search needs
 
--- src/shares.rt:31:1
+-- src/shares.rt:56:1
 returns : tie.Need-returns
-returns c = at-place (now (c .before .args .list)) (c .before .args .j) (c .before .pre .0)
+returns c = at-place (now (c .before .args .list)) (c .before .args .j) (c .before .pre .0 .0)
 
 pub entry-spec : {M : Type 1} → statement M
-entry-spec = tie.close (tie.spec sub-result mul-result element-copy-out-result returns)
+entry-spec = tie.close (tie.spec sub-result mul-result shared-slice-read-result returns)

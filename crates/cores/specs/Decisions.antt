@@ -1,0 +1,23 @@
+-- What a decision on a book promises: the operation's answer, and a change that leaves the operation's book.
+--
+--   ClaimOf b tick j len answer c     the claim of share j at that tick for len ticks
+--   ReleaseOf b tick t answer c       the release of the ticket t
+--   CommitOf b tick t p answer c      the commit of the position p with the ticket t
+use mathlib.Core.Path.{_≡_}
+use Prim.Native.Nat.{ℕ}
+use Rattle.book.specs.declared.types.Book.{Book}
+use Rattle.book.specs.declared.types.Change.{Change}
+use Rattle.book.specs.declared.types.Claiming.{Claiming}
+use Rattle.book.specs.declared.types.Releasing.{Releasing}
+use Rattle.book.specs.declared.types.Committing.{Committing}
+use Rattle.book.specs.Changes.{changed, Placed}
+use Rattle.book.specs.Calls.{claim-answer, claim-book, release-answer, release-book, commit-answer, commit-book}
+
+abbrev pub ClaimOf : Book → ℕ → ℕ → ℕ → Claiming → Change → Type 0
+ClaimOf b tick j len answer c = (answer ≡ claim-answer b tick j len) × (changed b c ≡ claim-book b tick j len) × Placed c
+
+abbrev pub ReleaseOf : Book → ℕ → ℕ → Releasing → Change → Type 0
+ReleaseOf b tick t answer c = (answer ≡ release-answer b tick t) × (changed b c ≡ release-book b tick t) × Placed c
+
+abbrev pub CommitOf : Book → ℕ → ℕ → ℕ → Committing → Change → Type 0
+CommitOf b tick t p answer c = (answer ≡ commit-answer b tick t p) × (changed b c ≡ commit-book b tick t p) × Placed c
