@@ -52,17 +52,20 @@ impl Book {
     }
 
     /// Open: the list of a size in so many shares, with nothing claimed. Refuses 31; 51.
+    #[inline]
     pub fn open(&mut self, size: u64, shares: u64) -> Result<(), Refusal> {
         answered(raw::open(self, size, shares))
     }
 
     /// Claim a share until `tick + length`: returns the ticket. Refuses 50; 52; 53; 54; 55; 56; 57.
+    #[inline]
     pub fn claim(&mut self, tick: u64, share: u64, length: u64) -> Result<u64, Refusal> {
         given(|ticket| raw::claim(self, tick, share, length, ticket))
     }
 
     /// Take: writes the diagram at the next position of the ticket's share. Refuses 50; 52; 58; 59; 9 where an output list has fewer than n, n and
     /// n + 1 places.
+    #[inline]
     pub fn take(&mut self, tick: u64, ticket: u64, s0: &mut [u16], s1: &mut [u16], word: &mut [u16]) -> Result<Taken, Refusal> {
         let mut values = [UNWRITTEN; 3];
         let answer = answered(raw::take(self, tick, ticket, s0, s1, word, &mut values));
@@ -72,16 +75,19 @@ impl Book {
     }
 
     /// Commit the next position of the ticket's share. Refuses 50; 52; 58; 59; 60.
+    #[inline]
     pub fn commit(&mut self, tick: u64, ticket: u64, position: u64) -> Result<(), Refusal> {
         answered(raw::commit(self, tick, ticket, position))
     }
 
     /// Release: the ticket's share is free. Refuses 50; 52; 58; 59.
+    #[inline]
     pub fn release(&mut self, tick: u64, ticket: u64) -> Result<(), Refusal> {
         answered(raw::release(self, tick, ticket))
     }
 
     /// Report: how many positions have been committed, and whether every share is finished. Refuses 50.
+    #[inline]
     pub fn report(&self) -> Result<Report, Refusal> {
         let (mut committed, mut complete) = (UNWRITTEN, UNWRITTEN);
         let answer = answered(raw::report(self, &mut committed, &mut complete));

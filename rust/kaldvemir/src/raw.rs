@@ -63,14 +63,17 @@ extern "C" {
 /// A lent diagram: s0, s1 and root.
 pub(crate) type Lent<'a> = (&'a [u16], &'a [u16], u64);
 
+#[inline]
 pub(crate) fn check(s0: &[u16], s1: &[u16], root: u64) -> u16 {
     unsafe { kaldvemir_check(s0.as_ptr(), s0.len(), s1.as_ptr(), s1.len(), root) }
 }
 
+#[inline]
 pub(crate) fn all_reached(marks: &[u8]) -> bool {
     unsafe { kaldvemir_all_reached(marks.as_ptr(), marks.len()) }
 }
 
+#[inline]
 pub(crate) fn relabel(s0: &[u16], s1: &[u16], root: u64, t0: &mut [u16], t1: &mut [u16], word: &mut [u16], length: &mut u64) -> u16 {
     unsafe {
         kaldvemir_relabel(
@@ -80,6 +83,7 @@ pub(crate) fn relabel(s0: &[u16], s1: &[u16], root: u64, t0: &mut [u16], t1: &mu
     }
 }
 
+#[inline]
 pub(crate) fn compare_rooted((s0, s1, s_root): Lent, (t0, t1, t_root): Lent, same: &mut u64, side: &mut u64) -> u16 {
     unsafe {
         kaldvemir_compare_rooted(
@@ -89,6 +93,7 @@ pub(crate) fn compare_rooted((s0, s1, s_root): Lent, (t0, t1, t_root): Lent, sam
     }
 }
 
+#[inline]
 pub(crate) fn compare_unrooted((s0, s1, s_root): Lent, (t0, t1, t_root): Lent, same: &mut u64, side: &mut u64) -> u16 {
     unsafe {
         kaldvemir_compare_unrooted(
@@ -98,14 +103,17 @@ pub(crate) fn compare_unrooted((s0, s1, s_root): Lent, (t0, t1, t_root): Lent, s
     }
 }
 
+#[inline]
 pub(crate) fn symmetries(s0: &[u16], s1: &[u16], root: u64, count: &mut u64) -> u16 {
     unsafe { kaldvemir_symmetries(s0.as_ptr(), s0.len(), s1.as_ptr(), s1.len(), root, count) }
 }
 
+#[inline]
 pub(crate) fn kept(s0: &[u16], s1: &[u16], root: u64, kept: &mut u64) -> u16 {
     unsafe { kaldvemir_kept(s0.as_ptr(), s0.len(), s1.as_ptr(), s1.len(), root, kept) }
 }
 
+#[inline]
 pub(crate) fn invariants(s0: &[u16], s1: &[u16], root: u64, out: &mut Invariants) -> u16 {
     unsafe {
         kaldvemir_invariants(
@@ -115,22 +123,27 @@ pub(crate) fn invariants(s0: &[u16], s1: &[u16], root: u64, out: &mut Invariants
     }
 }
 
+#[inline]
 pub(crate) fn read_word(word: &[u16], s0: &mut [u16], s1: &mut [u16], size: &mut u64) -> u16 {
     unsafe { kaldvemir_read_word(word.as_ptr(), word.len(), s0.as_mut_ptr(), s0.len(), s1.as_mut_ptr(), s1.len(), size) }
 }
 
+#[inline]
 pub(crate) fn lesser(first: &[u16], second: &[u16]) -> u16 {
     unsafe { kaldvemir_lesser(first.as_ptr(), first.len(), second.as_ptr(), second.len()) }
 }
 
+#[inline]
 pub(crate) fn letters(word: &[u16], letters: &mut [u8], length: &mut u64) -> u16 {
     unsafe { kaldvemir_letters(word.as_ptr(), word.len(), letters.as_mut_ptr(), letters.len(), length) }
 }
 
+#[inline]
 pub(crate) fn count(size: u64, count: &mut u64) -> u16 {
     unsafe { kaldvemir_count(size, count) }
 }
 
+#[inline]
 pub(crate) fn diagram_at(size: u64, position: u64, s0: &mut [u16], s1: &mut [u16], word: &mut [u16], length: &mut u64) -> u16 {
     unsafe {
         kaldvemir_diagram_at(
@@ -139,23 +152,28 @@ pub(crate) fn diagram_at(size: u64, position: u64, s0: &mut [u16], s1: &mut [u16
     }
 }
 
+#[inline]
 pub(crate) fn position(s0: &[u16], s1: &[u16], root: u64, position: &mut u64) -> u16 {
     unsafe { kaldvemir_position(s0.as_ptr(), s0.len(), s1.as_ptr(), s1.len(), root, position) }
 }
 
+#[inline]
 pub(crate) fn plain_walk(size: u64, words: &mut [u16], count: &mut u64) -> u16 {
     unsafe { kaldvemir_plain_walk(size, words.as_mut_ptr(), words.len(), count) }
 }
 
+#[inline]
 pub(crate) fn begin(size: u64, run: &mut Run) -> u16 {
     unsafe { kaldvemir_begin(size, run) }
 }
 
+#[inline]
 pub(crate) fn step(run: &mut Run, s0: &mut [u16], s1: &mut [u16], word: &mut [u16], length: &mut u64) -> u16 {
     unsafe { kaldvemir_step(run, s0.as_mut_ptr(), s0.len(), s1.as_mut_ptr(), s1.len(), word.as_mut_ptr(), word.len(), length) }
 }
 
 /// The four lists are s0, s1, the words and their lengths.
+#[inline]
 pub(crate) fn list(run: &mut Run, rows: u64, [s0, s1, words, lengths]: [&mut [u16]; 4], given: &mut u64) -> u16 {
     unsafe {
         kaldvemir_list(
@@ -165,6 +183,7 @@ pub(crate) fn list(run: &mut Run, rows: u64, [s0, s1, words, lengths]: [&mut [u1
     }
 }
 
+#[inline]
 pub(crate) fn list_marked(
     run: &mut Run, rows: u64, [s0, s1, words, lengths]: [&mut [u16]; 4], marks: &mut [u8], given: &mut u64,
 ) -> u16 {
@@ -176,15 +195,18 @@ pub(crate) fn list_marked(
     }
 }
 
+#[inline]
 pub(crate) fn open(book: &mut Book, size: u64, shares: u64) -> u16 {
     unsafe { kaldvemir_open(book, size, shares) }
 }
 
+#[inline]
 pub(crate) fn claim(book: &mut Book, tick: u64, share: u64, length: u64, ticket: &mut u64) -> u16 {
     unsafe { kaldvemir_claim(book, tick, share, length, ticket) }
 }
 
 /// The three values are share, position and length.
+#[inline]
 pub(crate) fn take(
     book: &mut Book, tick: u64, ticket: u64, s0: &mut [u16], s1: &mut [u16], word: &mut [u16], [share, position, length]: &mut [u64; 3],
 ) -> u16 {
@@ -196,14 +218,17 @@ pub(crate) fn take(
     }
 }
 
+#[inline]
 pub(crate) fn commit(book: &mut Book, tick: u64, ticket: u64, position: u64) -> u16 {
     unsafe { kaldvemir_commit(book, tick, ticket, position) }
 }
 
+#[inline]
 pub(crate) fn release(book: &mut Book, tick: u64, ticket: u64) -> u16 {
     unsafe { kaldvemir_release(book, tick, ticket) }
 }
 
+#[inline]
 pub(crate) fn report(book: &Book, committed: &mut u64, complete: &mut u64) -> u16 {
     unsafe { kaldvemir_report(book, committed, complete) }
 }

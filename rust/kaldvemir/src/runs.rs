@@ -19,6 +19,7 @@ pub struct Run {
 
 impl Run {
     /// Beginning: a fresh run. Refuses 31.
+    #[inline]
     pub fn begin(size: u64) -> Result<Run, Refusal> {
         let unwritten = UNWRITTEN as u16;
         let before = Run { size: unwritten, stage: unwritten, length: unwritten, items: [unwritten; 51] };
@@ -30,6 +31,7 @@ impl Run {
 
     /// Step: writes the next diagram with its word and returns the word's length, or `None` at the end. Refuses 34; a finished run then answers
     /// `None`; 9 where an output list has fewer than n, n and n + 1 places.
+    #[inline]
     pub fn step(&mut self, s0: &mut [u16], s1: &mut [u16], word: &mut [u16]) -> Result<Option<usize>, Refusal> {
         let length = length(|length| raw::step(self, s0, s1, word, length))?;
         Ok(if length == 0 { None } else { Some(length) })
@@ -39,11 +41,13 @@ impl Run {
     /// there are. `s0` and `s1` hold n entries for each, `words` their words and `lengths` the words' lengths. Fewer than `rows`: the list has
     /// ended, and the run is finished. Refuses 34; a finished run then answers 0; 9 where an output list has fewer than `rows` times n, n,
     /// n + 1 and 1 places.
+    #[inline]
     pub fn list(&mut self, rows: u64, s0: &mut [u16], s1: &mut [u16], words: &mut [u16], lengths: &mut [u16]) -> Result<u64, Refusal> {
         given(|given| raw::list(self, rows, [s0, s1, words, lengths], given))
     }
 
     /// The same with the keep mark of each diagram, 1 where it is kept and otherwise 0. Refuses 9 also where there are fewer than `rows` marks.
+    #[inline]
     pub fn list_marked(
         &mut self, rows: u64, s0: &mut [u16], s1: &mut [u16], words: &mut [u16], lengths: &mut [u16], marks: &mut [u8],
     ) -> Result<u64, Refusal> {
