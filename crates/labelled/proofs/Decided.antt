@@ -11,9 +11,8 @@ use lib.ListN.{length, getD, set, take, drop, take-append-drop, length-append, d
 use lib.Seq.{drop-cons, take-suc, take-at, take-append-seam}
 use Rattle.lists.specs.Lists.{at, pick}
 use Rattle.lists.proofs.Tests.{lt?, lt-true, lt-false, same?, eqb-same, eqb-ne}
-use Rattle.words.specs.Order.{precedes}
+use Rattle.words.specs.Order.{precedes, same}
 use Rattle.labelling.specs.Labelling.{move, wordOf}
-use Rattle.labelling.specs.Rootings.{same}
 use Rattle.labelling.proofs.Along.{size}
 use Rattle.labelled.specs.Scratch.{Underway, opening, Did}
 use Rattle.labelled.specs.Traced.{goesOn, Traced, Followed}

@@ -7,7 +7,7 @@ use Prim.Native.Nat.{ℕ, zero, suc, _+_, _≤_, _<_}
 use native.Mathlib.Omega.{arith}
 use lib.ListN.{length}
 use Rattle.lists.specs.Lists.{pick, Has, Apart}
-use Rattle.lists.specs.Ranges.{Edge, every, down}
+use Rattle.lists.specs.Ranges.{Edge, every, tally, down}
 use Rattle.lists.proofs.Tests.{same?, both-true}
 use Rattle.lists.proofs.Lists.{has?, pigeons}
 
@@ -47,6 +47,14 @@ every-true (suc n) t e x i = go (same? x (suc n)) (every-true n t (both-true (t 
 pub true-every : (n : ℕ) (t : ℕ → Bool) → ((x : ℕ) → Edge n x → t x ≡ true) → every n t ≡ true
 true-every zero t k = refl
 true-every (suc n) t k = rw (k (suc n) (omega arith)) (true-every n t (λ x i. k x (omega arith)))
+
+pub tally-most : (n : ℕ) (t : ℕ → Bool) → tally n t ≤ n
+tally-most zero t = omega arith
+tally-most (suc n) t = go (t (suc n)) (tally-most n t)
+  where
+    go : (b : Bool) → tally n t ≤ n → pick b 1 0 + tally n t ≤ suc n
+    go true h = omega arith
+    go false h = omega arith
 
 -- ---- a map of 1..n into itself that is one-to-one is onto
 
