@@ -8,7 +8,7 @@ use mathlib.Core.List.{List, [], _∷_, _++_}
 use lib.Dec.{ltb}
 use lib.ListN.{length, getD, List·getD-append}
 use lib.Seq.{getD-append-add}
-use Rattle.lists.specs.Lists.{pick, at}
+use Rattle.lists.specs.Lists.{pick}
 use Rattle.lists.proofs.Tests.{lt-true, lt-false, lt?}
 use Rattle.words.specs.Shape.{pre, less1, less3, Fits}
 use Rattle.counting.specs.Listing.{each, fan, ends, tails, ways}

@@ -1,7 +1,7 @@
 -- Laws of the search: an edge is put on the list at most once, so the list has room; and a list that holds edge 1 and, with each
 -- edge, both its neighbours, holds every edge that is reached.
 use mathlib.Core.Path.{_≡_, refl, sym, ap, _∙_}
-use mathlib.Core.Logic.{_≢_, _⊎_, inl, inr, ⊎-elim, _↔_}
+use mathlib.Core.Logic.{_≢_, _⊎_, inl, inr, _↔_}
 use mathlib.Core.List.{List, [], _∷_, _++_}
 use Prim.Native.Nat.{ℕ, zero, suc, _+_, _-_, _≤_, _<_}
 use native.Mathlib.Omega.{arith}
@@ -9,10 +9,10 @@ use native.Mathlib.Numerals.{add-one}
 use lib.ListN.{length, getD, take, set, replicate, length-set, length-replicate}
 use lib.Seq.{length-take-le, take-suc-set, take-set-le, take-suc, take-all, take-append-le, getD-take, set-getD}
 use Rattle.lists.specs.Lists.{at, put, Has, has, Apart}
-use Rattle.lists.specs.Ranges.{Edge, down}
+use Rattle.lists.specs.Ranges.{Edge}
 use Rattle.lists.proofs.Tests.{same?, pick-all}
-use Rattle.lists.proofs.Lists.{has-true, has-false, has?, has-snoc, snoc-has, apart-snoc, pigeons, has-getD, at-put-same, at-put-other, at-place, put-place, at-zeros, length-1}
-use Rattle.lists.proofs.Ranges.{has-down, length-down}
+use Rattle.lists.proofs.Lists.{has-true, has-false, has?, has-snoc, snoc-has, apart-snoc, has-getD, at-put-same, at-put-other, at-place, put-place, at-zeros, length-1}
+use Rattle.lists.proofs.Ranges.{edges-few}
 use Rattle.diagrams.specs.Diagram.{Reached, here, black, white}
 use Rattle.diagrams.specs.Check.{Connected, AllOne}
 use Rattle.diagrams.specs.Search.{Mapped, joined, Search}
@@ -27,11 +27,11 @@ joined-new : (x : ℕ) (l : List ℕ) → ¬ Has x l → joined x l ≡ l ++ (x 
 joined-new x l n = rw (has-false x l n)
 
 room : (n x : ℕ) (l : List ℕ) → Apart l → ((y : ℕ) → Has y l → Edge n y) → Edge n x → ¬ Has x l → length l < n
-room n x l a k e m = rw length-down at (pigeons (x ∷ l) (down n) (m, a) inside)
+room n x l a k e m = edges-few n (x ∷ l) (m, a) inside
   where
-    inside : (y : ℕ) → Has y (x ∷ l) → Has y (down n)
-    inside y (inl q) = has-down n y (rw q e)
-    inside y (inr h) = has-down n y (k y h)
+    inside : (y : ℕ) → Has y (x ∷ l) → Edge n y
+    inside y (inl q) = rw q e
+    inside y (inr h) = k y h
 
 module _ {marks list : List ℕ} {count : ℕ} (s : Search marks list count) where
   marked-there : (x : ℕ) → at marks x ≡ 1 → Has x (take count list)

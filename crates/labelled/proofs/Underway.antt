@@ -8,9 +8,9 @@ use lib.ListN.{length, getD}
 use Rattle.lists.specs.Lists.{at, Has, find, cut}
 use Rattle.lists.specs.Ranges.{Edge}
 use Rattle.lists.proofs.Tests.{eqb-same, eqb-ne}
-use Rattle.diagrams.specs.Diagram.{Maps, Diagram}
+use Rattle.diagrams.specs.Diagram.{Maps}
 use Rattle.diagrams.specs.Check.{Accepts}
-use Rattle.diagrams.proofs.Checks.{accepts-rooted}
+use Rattle.diagrams.proofs.Checks.{accepts-maps}
 use Rattle.pending.specs.Ring.{Ring}
 use Rattle.labelling.specs.Labelling.{Move, move, Along}
 use Rattle.labelling.proofs.Along.{View, is-W, is-J, is-B, is-F, view, next, size}
@@ -21,12 +21,6 @@ use Rattle.labelled.specs.Scratch.{Holds, Underway, opening, Did}
 use Rattle.labelled.proofs.Arrays.{lab-none, lab-zero}
 
 -- ---- accepted diagrams
-
-pub accepts-diagram : (s0 s1 : List ℕ) (r : ℕ) → Accepts s0 s1 r → Diagram (length s0) (at s0) (at s1)
-accepts-diagram s0 s1 r a = accepts-rooted s0 s1 r .0 a .1 .diagram
-
-pub accepts-maps : (s0 s1 : List ℕ) (r : ℕ) → Accepts s0 s1 r → Maps (length s0) (at s0) (at s1)
-accepts-maps s0 s1 r a = accepts-diagram s0 s1 r a .maps
 
 pub accepts-small : (s0 s1 : List ℕ) (r x : ℕ) → Accepts s0 s1 r → Edge (length s0) x → Edge 1024 x
 accepts-small s0 s1 r x a e = let i = a .size in omega arith

@@ -5,10 +5,10 @@ use mathlib.Core.List.{List, [], _∷_}
 use Prim.Native.Nat.{ℕ, zero, suc, _+_, _≤_}
 use native.Mathlib.Omega.{arith}
 use lib.ListN.{length, getD}
-use Rattle.lists.specs.Lists.{at, Has, Apart, find, cut}
-use Rattle.lists.specs.Ranges.{Edge, down}
-use Rattle.lists.proofs.Lists.{has?, find-lt, getD-find, cut-has, cut-not, cut-other, apart-cut, length-cut, pigeons}
-use Rattle.lists.proofs.Ranges.{has-down, length-down}
+use Rattle.lists.specs.Lists.{Has, find, cut}
+use Rattle.lists.specs.Ranges.{Edge}
+use Rattle.lists.proofs.Lists.{has?, find-lt, getD-find, cut-has, cut-not, cut-other, apart-cut, length-cut}
+use Rattle.lists.proofs.Ranges.{edges-few}
 use Rattle.lists.proofs.Tests.{same?}
 use Rattle.diagrams.specs.Diagram.{Maps}
 use Rattle.labelling.specs.Labelling.{move, Along, run}
@@ -180,7 +180,7 @@ module _ (n : ℕ) (f g : ℕ → ℕ) (D : Maps n f g) where
         go (is-F a u e q) = rw q (omega arith)
 
   pub size : (o st : List ℕ) → Along n f g o st → length o ≤ n
-  size o st I = let i = pigeons o (down n) (I .apart) (λ x h. has-down n x (I .edges x h)) in rw length-down at i
+  size o st I = edges-few n o (I .apart) (I .edges)
 
   pub finish : (m : ℕ) (o st : List ℕ) → Along n f g o st → length st + n ≤ m + length o → Along n f g (run f g m o st .marked) []
   unfolding run

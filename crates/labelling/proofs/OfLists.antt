@@ -11,7 +11,7 @@ use Rattle.lists.proofs.Lists.{length-listed, at-listed}
 use Rattle.diagrams.specs.Check.{Accepts}
 use Rattle.diagrams.specs.Diagram.{Diagram}
 use Rattle.diagrams.specs.Isomorphism.{Isomorphism, RootAlike}
-use Rattle.diagrams.proofs.Checks.{accepts-rooted}
+use Rattle.diagrams.proofs.Checks.{accepts-rooted, accepts-diagram}
 use Rattle.diagrams.proofs.Diagrams.{edge-one, diagram-same}
 use Rattle.diagrams.proofs.Isomorphisms.{root-isomorphic-sym, root-isomorphic-trans}
 use Rattle.words.specs.Word.{Pair, spell, Spells}
@@ -45,7 +45,7 @@ module _ (s0 s1 : List ℕ) (root : ℕ) (A : Accepts s0 s1 root) where
   t1 = listed (relabel M (at s1)) n
 
   diagram : Diagram n (at s0) (at s1)
-  diagram = accepts-rooted s0 s1 root .0 A .1 .diagram
+  diagram = accepts-diagram s0 s1 root A
 
   marked : Done n (at s0) (at s1) root M
   marked = done n (at s0) (at s1) (diagram .maps) root (A .root-in)

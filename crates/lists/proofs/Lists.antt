@@ -1,14 +1,14 @@
 -- Laws of lists: membership, no repeats, places, a map's entries, a statement for each element.
 use mathlib.Core.Path.{_≡_, refl, sym, ap, _∙_, subst}
 use mathlib.Core.Logic.{_≢_, _⊎_, inl, inr, ⊎-elim, _↔_}
-use mathlib.Core.Bool.{Bool, true, false, true≢false}
-use mathlib.Core.List.{List, [], _∷_, _++_, map, List·Memᴰ, List·Memᴰ·not-nil, List·Memᴰ·cases-cons}
+use mathlib.Core.Bool.{Bool, true, false}
+use mathlib.Core.List.{List, [], _∷_, _++_, List·Memᴰ, List·Memᴰ·not-nil, List·Memᴰ·cases-cons}
 use Prim.Native.Nat.{ℕ, zero, suc, _+_, _-_, _≤_, _<_}
 use native.Mathlib.Nat.{not-suc-le-zero, le-of-suc-le-suc}
 use native.Mathlib.Omega.{arith}
 use lib.Dec.{eqb}
-use lib.ListN.{length, getD, set, replicate, length-set, length-append, List·getD-append}
-use lib.Seq.{getD-set-same, getD-set-other, getD-append-add}
+use lib.ListN.{length, getD, set, take, drop, replicate, length-set, length-append, List·getD-append}
+use lib.Seq.{getD-set-same, getD-set-other, getD-append-add, take-all}
 use Rattle.lists.specs.Lists.{pick, at, put, listed, Has, Apart, All, has, find, cut}
 use Rattle.lists.specs.Ranges.{Edge}
 use Rattle.lists.proofs.Tests.{eqb-same, eqb-ne, same?}
@@ -170,6 +170,11 @@ at-zeros zero (suc i) = refl
 at-zeros (suc n) (suc zero) = refl
 at-zeros (suc n) (suc (suc i)) = at-zeros n (suc i)
 
+pub drop-zeros : (m n : ℕ) → n ≤ m → drop {A = ℕ} n (replicate m 0) ≡ replicate (m - n) 0
+drop-zeros m zero h = let e : m - 0 ≡ m = omega arith in rw e
+drop-zeros zero (suc n) h = absurd (omega arith)
+drop-zeros (suc m) (suc n) h = let e : suc m - suc n ≡ m - n = omega arith in rw e (drop-zeros m n (omega arith))
+
 pub length-listed : (f : ℕ → ℕ) (n : ℕ) → length (listed f n) ≡ n
 length-listed f zero = refl
 length-listed f (suc n) = simp (length-append, length-listed f n) (omega arith)
@@ -181,6 +186,10 @@ at-listed f (suc n) x e = go (same? x (suc n)) (at-listed f n x)
     go : (x ≡ suc n) ⊎ (x ≢ suc n) → (Edge n x → at (listed f n) x ≡ f x) → at (listed f (suc n)) x ≡ f x
     go (inl q) k = rw q (at-right (listed f n) (f (suc n) ∷ []) (suc n) 0 (rw length-listed (omega arith)))
     go (inr q) k = at-left (listed f n) (f (suc n) ∷ []) x (rw length-listed (omega arith)) ∙ k (omega arith)
+
+-- the elements after the first, as the code hands them on: a part of the list
+pub rest-is : (x : ℕ) (s : List ℕ) → take (length (x ∷ s) - 1) (drop 1 (x ∷ s)) ≡ s
+rest-is x s = take-all (length (x ∷ s) - 1) s (omega arith)
 
 pub length-1 : (s : List ℕ) (a : ℕ) → length (s ++ (a ∷ [])) ≡ suc (length s)
 length-1 s a = simp length-append (omega arith)

@@ -1,9 +1,9 @@
 -- Laws of the numbers 1 to n.
-use mathlib.Core.Path.{_≡_, refl, sym, ap, _∙_}
-use mathlib.Core.Logic.{_≢_, _⊎_, inl, inr, ⊎-elim}
+use mathlib.Core.Path.{_≡_, refl, sym, ap}
+use mathlib.Core.Logic.{_≢_, _⊎_, inl, inr}
 use mathlib.Core.Bool.{Bool, true, false}
 use mathlib.Core.List.{List, [], _∷_}
-use Prim.Native.Nat.{ℕ, zero, suc, _+_, _≤_, _<_}
+use Prim.Native.Nat.{ℕ, zero, suc, _+_, _≤_}
 use native.Mathlib.Omega.{arith}
 use lib.ListN.{length}
 use Rattle.lists.specs.Lists.{pick, Has, Apart}
@@ -33,6 +33,10 @@ apart-down (suc n) = (λ h. let i = down-has n (suc n) h in omega arith, apart-d
 pub length-down : (n : ℕ) → length (down n) ≡ n
 length-down zero = refl
 length-down (suc n) = ap suc (length-down n)
+
+-- a list of edges without repeats has at most n
+pub edges-few : (n : ℕ) (l : List ℕ) → Apart l → ((x : ℕ) → Has x l → Edge n x) → length l ≤ n
+edges-few n l a e = rw length-down at (pigeons l (down n) a (λ x h. has-down n x (e x h)))
 
 -- ---- a test at each of 1..n
 

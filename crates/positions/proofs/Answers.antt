@@ -1,5 +1,5 @@
 -- From what the code found and wrote to the promises of diagram at a position and of position of a diagram.
-use mathlib.Core.Path.{_≡_, refl, sym, _∙_}
+use mathlib.Core.Path.{_≡_, sym, _∙_}
 use mathlib.Core.Logic.{_⊎_, inl, inr}
 use mathlib.Core.List.{List}
 use Prim.Native.Nat.{ℕ, suc, _≤_, _<_}
@@ -7,12 +7,10 @@ use native.Mathlib.Omega.{arith}
 use lib.ListN.{length, take, replicate, length-append}
 use lib.Seq.{take-at}
 use Rattle.lists.specs.Ranges.{Edge}
-use Rattle.lists.proofs.Tests.{lt?}
 use Rattle.diagrams.specs.Check.{Accepts, Refuses, no-size, no-lengths, no-root, no-blacks, no-whites, no-thrice, no-twice, no-path}
-use Rattle.words.specs.Word.{Spells}
 use Rattle.words.specs.Outputs.{over, Short}
 use Rattle.words.proofs.Outputs.{not-short, long-enough}
-use Rattle.words.proofs.Shape.{word-spells, word-length}
+use Rattle.words.proofs.Shape.{word-length}
 use Rattle.counting.specs.Listing.{count}
 use Rattle.counting.specs.Position.{wordAt}
 use Rattle.counting.proofs.Positions.{at-word}
@@ -27,9 +25,6 @@ pub over-within : (w a : List ℕ) (m k : ℕ) (b : List ℕ) → m ≡ k → k 
 over-within w a m k b d e q = rw q (simp length-append (omega arith))
 
 -- ---- the word at a position
-
-pub at-spelled : (n p : ℕ) → Edge (count n) p → Spells n (wordAt n p)
-at-spelled n p e = word-spells n (wordAt n p) (at-word n p e)
 
 pub at-length : (n p : ℕ) → Edge (count n) p → length (wordAt n p) ≤ suc n
 at-length n p e = word-length n (wordAt n p) (at-word n p e)

@@ -5,9 +5,10 @@ use mathlib.Core.List.{List, [], _∷_}
 use Prim.Native.Nat.{ℕ, zero, suc, _+_, _-_, _^_, _≤_, _<_}
 use native.Mathlib.Omega.{arith}
 use lib.ListN.{length, getD, set, take, drop, List·getD-append}
-use lib.Seq.{getD-append-add, take-length}
+use lib.Seq.{getD-append-add}
 use Rattle.lists.specs.Ranges.{Edge}
 use Rattle.lists.proofs.Tests.{lt?}
+use Rattle.lists.proofs.Lists.{rest-is}
 use Rattle.words.specs.Shape.{Fits, Word}
 use Rattle.words.specs.Word.{Spells}
 use Rattle.words.proofs.Shape.{spells-word}
@@ -147,9 +148,6 @@ position-T f w a =
 
 abbrev rest : List ℕ → List ℕ
 rest w = take (length w - 1) (drop 1 w)
-
-rest-is : (x : ℕ) (w : List ℕ) → rest (x ∷ w) ≡ w
-rest-is x w = let e : suc (length w) - 1 ≡ length w = omega arith in rw (e, take-length w)
 
 word-U : (n : ℕ) (w : List ℕ) → Word n w → getD w 0 0 ≡ 0 → (1 ≤ n) × Fits 1 (n - 1) (rest w) × (position n w ≡ rank 1 (n - 1) (rest w) + 1)
 word-U n [] a e = absurd a

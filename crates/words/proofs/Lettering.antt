@@ -7,8 +7,9 @@ use Prim.Native.Nat.{ℕ, zero, suc, _+_, _-_, _≤_, _<_}
 use native.Mathlib.Numerals.{add-one}
 use native.Mathlib.Omega.{arith}
 use lib.ListN.{length, getD, set, take, drop, length-append, length-set, drop-of-length-le}
-use lib.Seq.{take-all, drop-cons}
+use lib.Seq.{drop-cons}
 use Rattle.lists.proofs.Tests.{lt-true, lt-false, le-true, le-false}
+use Rattle.lists.proofs.Lists.{rest-is}
 use Rattle.words.specs.Outputs.{from}
 use Rattle.words.specs.Letters.{decimal, Wrote, Put, first-letter, event-letters, events-letters, letters, Lettering}
 use Rattle.words.specs.declared.Lettered.{Lettered}
@@ -128,4 +129,4 @@ lettering-whole x b w d n e h f s a = record {
 -- a word is its first item and the part after it
 pub lettering-split : (w d : List ℕ) (r : Lettered) (e : List ℕ) → length w ≢ 0 → Lettering (getD w 0 0 ∷ take (length w - 1) (drop 1 w)) d r e → Lettering w d r e
 lettering-split [] d r e h l = absurd (h refl)
-lettering-split (x ∷ w) d r e h l = rw (take-all (length (x ∷ w) - 1) w (omega arith)) at l
+lettering-split (x ∷ w) d r e h l = rw (rest-is x w) at l

@@ -11,7 +11,7 @@ use lib.Dec.{eqb, ltb}
 use lib.ListN.{length, getD, take, drop, drop-of-length-le}
 use lib.Seq.{drop-cons}
 use Rattle.lists.specs.Lists.{pick}
-use Rattle.lists.proofs.Tests.{lt?, lt-true, lt-false, ltb-true, eqb-same, eqb-eq, eqb-ne, eqb-true, both-true}
+use Rattle.lists.proofs.Tests.{not-true, lt?, lt-true, lt-false, ltb-true, eqb-same, eqb-eq, eqb-ne, eqb-true, both-true}
 use Rattle.words.specs.Order.{Before, precedes, lesser, same}
 
 -- ---- a strict order
@@ -76,11 +76,7 @@ pub precedes-false : (u v : List ℕ) → precedes u v ≡ false → ¬ Before u
 precedes-false u v e l = true≢false (sym (before-true u v l) ∙ e)
 
 pub before-false : (u v : List ℕ) → ¬ Before u v → precedes u v ≡ false
-before-false u v n = go (precedes u v) refl
-  where
-    go : (b : Bool) → precedes u v ≡ b → precedes u v ≡ false
-    go true e = absurd (n (precedes-true u v e))
-    go false e = e
+before-false u v n = not-true (precedes u v) (λ e. n (precedes-true u v e))
 
 -- ---- the lesser of two
 
@@ -148,11 +144,7 @@ same-self [] = refl
 same-self (x ∷ u) = rw (eqb-same x) (same-self u)
 
 pub same-false : (u v : List ℕ) → u ≢ v → same u v ≡ false
-same-false u v n = go (same u v) refl
-  where
-    go : (b : Bool) → same u v ≡ b → same u v ≡ false
-    go true e = absurd (n (same-true u v e))
-    go false e = e
+same-false u v n = not-true (same u v) (λ e. n (same-true u v e))
 
 pub same-from : (u v : List ℕ) (i : ℕ) → i < length u → i < length v → getD u i 0 ≡ getD v i 0 → same (drop i u) (drop i v) ≡ same (drop (i + 1) u) (drop (i + 1) v)
 same-from u v i hu hv e = rw (drop-cons u i 0 hu, drop-cons v i 0 hv, add-one, eqb-eq (getD u i 0) (getD v i 0) e)

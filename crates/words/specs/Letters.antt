@@ -2,7 +2,7 @@
 --
 --   digits k m            the digits of m, the highest first, where there are at most k; otherwise the k lowest
 --   decimal m             m in decimal, for a number of 64 bits or fewer
---   Wrote d i s r e       s was written at place i of d: e is what d then holds, and r the place after s
+--   Wrote d i s r e       s was written over d from place i on, which left e; r is the place after s
 --   Put d i s r e         the same where s fits; where it does not, e is d and r is i
 --   letters w             U or T, then for each item W, F, B or J with d in decimal; a first item above 1 has no letter
 --   opens w               w has no item, or a first item that is 0 or 1

@@ -6,8 +6,8 @@ use lib.Seq.{length-take-le}
 use Rattle.words.proofs.Outputs.{long-enough}
 use Rattle.counting.specs.Position.{wordAt}
 use Rattle.counting.specs.Diagrams.{diagramAt}
-use Rattle.counting.proofs.InPlace.{at-spells}
-use Rattle.positions.proofs.Answers.{over-part, over-within, at-spelled, at-length}
+use Rattle.counting.proofs.InPlace.{at-spelled, at-spells}
+use Rattle.positions.proofs.Answers.{over-part, over-within, at-length}
 use Rattle.positions.proofs.write_at.Statement.{statement}
 use Rattle.positions.proofs.write_at.Tie as tie
 
