@@ -1,9 +1,7 @@
 -- What relabel has written is the word and the characteristic labelling.
 use mathlib.Core.Path.{_≡_}
-use mathlib.Core.Logic.{⊎-elim}
 use mathlib.Core.List.{List, _++_}
-use Prim.Native.Nat.{ℕ, _≤_, _<_}
-use native.Mathlib.Omega.{arith}
+use Prim.Native.Nat.{ℕ}
 use lib.ListN.{length, drop}
 use Rattle.lists.specs.Lists.{at, listed}
 use Rattle.lists.proofs.Lists.{length-listed}
@@ -13,9 +11,6 @@ use Rattle.labelling.specs.Labelling.{relabel, labels, characteristic}
 use Rattle.labelled.specs.Scratch.{Holds, Wrote}
 use Rattle.canonical.specs.Promises.{Relabelled}
 use Rattle.canonical.specs.declared.Relabelling.the-variants as relabelling
-
-pub not-short : (n : ℕ) (a0 a1 aw : List ℕ) → n ≤ length a0 → n ≤ length a1 → n < length aw → ¬ Short n a0 a1 aw
-not-short n a0 a1 aw h i j = ⊎-elim (λ l. omega arith) (⊎-elim (λ l. omega arith) (λ l. omega arith))
 
 module _ (s0 s1 : List ℕ) (root : ℕ) (la od nx pv a0 a1 aw b0 b1 bw : List ℕ) (m : ℕ) (a : Accepts s0 s1 root) (w : Wrote s0 s1 root la od nx pv aw bw m) where
   -- the second list is as long as the first

@@ -6,13 +6,13 @@ use mathlib.Core.List.{List}
 use Prim.Native.Nat.{ℕ}
 use Rattle.diagrams.specs.Check.{Accepts}
 use Rattle.diagrams.specs.Isomorphism.{Alike, RootAlike}
+use Rattle.words.specs.Order.{same}
+use Rattle.words.proofs.Order.{same-true, same-self}
 use Rattle.labelling.specs.Labelling.{wordOf}
-use Rattle.labelling.specs.Rootings.{same}
 use Rattle.labelling.proofs.OfLists.{alike-words, words-alike}
 use Rattle.labelling.proofs.Rootings.{rooting-alike, alike-rooting}
 use Rattle.labelled.specs.Traced.{Traced}
 use Rattle.canonical.specs.Among.{SomeRooting}
-use Rattle.canonical.proofs.Sameness.{same-true, same-self}
 
 module _ (s0 s1 : List ℕ) (r : ℕ) (t0 t1 : List ℕ) (q : ℕ) (A : Accepts s0 s1 r) (B : Accepts t0 t1 q) (w : List ℕ) (e : w ≡ wordOf t0 t1 q) (b : Bool) where
   -- by a trace of the first along the second's word

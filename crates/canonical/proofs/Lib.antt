@@ -1,4 +1,3 @@
-pub mod Sameness
 pub mod Tried
 pub mod Comparing
 pub mod Characteristic

@@ -3,21 +3,19 @@ use mathlib.Core.Path.{_≡_, sym, ap, _∙_}
 use mathlib.Core.Logic.{_≢_, _⊎_, inl, inr}
 use mathlib.Core.Bool.{Bool, true, false, true≢false}
 use mathlib.Core.List.{List}
-use Prim.Native.Nat.{ℕ, zero, suc, _+_, _≤_, _<_}
+use Prim.Native.Nat.{ℕ, _+_, _≤_, _<_}
 use native.Mathlib.Omega.{arith}
 use native.Mathlib.Numerals.{add-one}
 use lib.ListN.{length}
 use Rattle.lists.specs.Lists.{pick}
 use Rattle.lists.specs.Ranges.{Edge, tally}
 use Rattle.lists.proofs.Tests.{same?}
-use Rattle.words.specs.Order.{Before, precedes}
-use Rattle.words.proofs.Order.{precedes-true, precedes-false}
+use Rattle.words.specs.Order.{Before, precedes, same}
+use Rattle.words.proofs.Order.{precedes-true, precedes-false, same-true, same-self}
 use Rattle.labelling.specs.Labelling.{wordOf}
-use Rattle.labelling.specs.Rootings.{same}
 use Rattle.labelled.specs.Scratch.{Ready}
 use Rattle.labelled.specs.Traced.{Traced}
 use Rattle.canonical.specs.Among.{NoneBefore, SomeRooting}
-use Rattle.canonical.proofs.Sameness.{same-true, same-self}
 
 -- x of the n rootings are tried; the arrays are fit for the next, and the list of the trace keeps its length
 pub record Tried (s0 : List ℕ) (n : ℕ) (la od nx pv cand₀ cand : List ℕ) (x : ℕ) : Type 0 where
@@ -33,14 +31,6 @@ each-more P x k p y e = go (same? y (x + 1))
     go : (y ≡ x + 1) ⊎ (y ≢ x + 1) → P y
     go (inl q) = rw q p
     go (inr q) = k y (omega (arith, q))
-
-pub tally-few : (n : ℕ) (t : ℕ → Bool) → tally n t ≤ n
-tally-few zero t = omega arith
-tally-few (suc n) t = go (t (suc n)) (tally-few n t)
-  where
-    go : (b : Bool) → tally n t ≤ n → pick b 1 0 + tally n t ≤ suc n
-    go true h = omega arith
-    go false h = omega arith
 
 module _ (s0 s1 own c : List ℕ) (x : ℕ) (t : Traced s0 s1 (x + 1) own c) where
   -- ---- none before

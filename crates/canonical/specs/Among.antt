@@ -8,9 +8,8 @@ use mathlib.Core.List.{List}
 use Prim.Native.Nat.{ℕ}
 use lib.ListN.{length}
 use Rattle.lists.specs.Ranges.{Edge, tally}
-use Rattle.words.specs.Order.{Before}
+use Rattle.words.specs.Order.{Before, same}
 use Rattle.labelling.specs.Labelling.{wordOf}
-use Rattle.labelling.specs.Rootings.{same}
 
 unfoldable pub NoneBefore : List ℕ → List ℕ → List ℕ → Type 0
 NoneBefore s0 s1 w = (x : ℕ) → Edge (length s0) x → ¬ Before (wordOf s0 s1 x) w

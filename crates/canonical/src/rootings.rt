@@ -6,9 +6,8 @@ ghost use mathlib.Core.Logic.{_↔_};
 ghost use mathlib.Core.Bool.{true};
 ghost use Prim.Native.Nat.{_<_};
 ghost use lib.ListN.{length};
-ghost use Rattle.words.specs.Order.{precedes};
+ghost use Rattle.words.specs.Order.{precedes, same};
 ghost use Rattle.diagrams.specs.Check.{Accepts};
-ghost use Rattle.labelling.specs.Rootings.{same};
 ghost use Rattle.labelled.specs.Scratch.{Ready};
 ghost use Rattle.canonical.specs.Among.{NoneBefore, SomeRooting, rootingsWith};
 

@@ -23,16 +23,16 @@ unfolding diagramOf
 diagram-spelled w D e = rw e
 
 module _ (n p : ℕ) (e : Edge (count n) p) where
-  spelt : Spells n (wordAt n p)
-  spelt = word-spells n (wordAt n p) (at-word n p e)
+  pub at-spelled : Spells n (wordAt n p)
+  at-spelled = word-spells n (wordAt n p) (at-word n p e)
 
   pub at-spells : spell (wordAt n p) ≡ some (diagramAt n p)
   unfolding diagramAt
-  at-spells = spelt .spelt ∙ ap some (sym (diagram-spelled (wordAt n p) (spelt .pair) (spelt .spelt)))
+  at-spells = at-spelled .spelt ∙ ap some (sym (diagram-spelled (wordAt n p) (at-spelled .pair) (at-spelled .spelt)))
 
   pub at-size : length (diagramAt n p .black) ≡ n
   unfolding diagramAt
-  at-size = ap (λ (D : Pair). length (D .black)) (diagram-spelled (wordAt n p) (spelt .pair) (spelt .spelt)) ∙ spelt .sized
+  at-size = ap (λ (D : Pair). length (D .black)) (diagram-spelled (wordAt n p) (at-spelled .pair) (at-spelled .spelt)) ∙ at-spelled .sized
 
   pub at-wordOf : wordOf (diagramAt n p .black) (diagramAt n p .white) 1 ≡ wordAt n p
   at-wordOf = spelled-wordOf (wordAt n p) (diagramAt n p) at-spells

@@ -4,7 +4,7 @@ use mathlib.Core.List.{List, [], _∷_, append-nil, List·Memᴰ, Memᴰ·append
 use Prim.Native.Nat.{ℕ, zero, suc, _+_}
 use native.Mathlib.Omega.{arith}
 use lib.ListN.{length, length-append}
-use Rattle.lists.specs.Lists.{at, All}
+use Rattle.lists.specs.Lists.{All}
 use Rattle.lists.proofs.Lists.{all-append}
 use Rattle.words.specs.Shape.{less1, less3, Word}
 use Rattle.counting.specs.Listing.{each, tails, listing, ways-in, ways, Sorted}

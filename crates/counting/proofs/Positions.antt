@@ -6,32 +6,28 @@ use mathlib.Core.List.{List, [], _∷_, List·Memᴰ, List·Memᴰ·not-nil, Lis
 use Prim.Native.Nat.{ℕ, zero, suc, _≤_, _<_}
 use native.Mathlib.Nat.{not-suc-le-zero}
 use native.Mathlib.Omega.{arith}
-use lib.Dec.{eqb}
 use lib.ListN.{length, getD}
-use Rattle.lists.specs.Lists.{at, All}
 use Rattle.lists.specs.Ranges.{Edge}
-use Rattle.lists.proofs.Tests.{eqb-same, eqb-true, lt?, both-true}
-use Rattle.words.specs.Order.{Before}
+use Rattle.lists.proofs.Tests.{lt?}
+use Rattle.lists.proofs.Lists.{all-at}
+use Rattle.words.specs.Order.{Before, same}
 use Rattle.words.specs.Shape.{Word}
-use Rattle.words.proofs.Order.{before-irrefl}
-use Rattle.labelling.specs.Rootings.{same}
+use Rattle.words.proofs.Order.{before-irrefl, same-true, same-self}
 use Rattle.counting.specs.Listing.{listing, count, Sorted}
 use Rattle.counting.specs.Position.{wordAt, place, position}
 use Rattle.counting.proofs.Listing.{listing-sound, listing-complete, listing-sorted}
 
-all-at : (P : List ℕ → Type 0) (ws : List (List ℕ)) (i : ℕ) → All P ws → i < length ws → P (getD ws i [])
-all-at P [] i a h = absurd (not-suc-le-zero h)
-all-at P (w ∷ ws) zero a h = a .0
-all-at P (w ∷ ws) (suc i) a h = all-at P ws i (a .1) (omega arith)
+-- ---- a sorted list of words
 
--- of a sorted list, a word further on comes after
-sorted-at : (ws : List (List ℕ)) (i j : ℕ) → Sorted ws → i < j → j < length ws → Before (getD ws i []) (getD ws j [])
+-- a word further on comes after
+pub sorted-at : (ws : List (List ℕ)) (i j : ℕ) → Sorted ws → i < j → j < length ws → Before (getD ws i []) (getD ws j [])
 sorted-at [] i j s l h = absurd (not-suc-le-zero h)
 sorted-at (w ∷ ws) i zero s l h = absurd (not-suc-le-zero l)
-sorted-at (w ∷ ws) zero (suc j) s l h = all-at (Before w) ws j (s .0) (omega arith)
+sorted-at (w ∷ ws) zero (suc j) s l h = all-at (Before w) ws j [] (s .0) (omega arith)
 sorted-at (w ∷ ws) (suc i) (suc j) s l h = sorted-at ws i j (s .1) (omega arith) (omega arith)
 
-sorted-once : (ws : List (List ℕ)) (i j : ℕ) → Sorted ws → i < length ws → j < length ws → getD ws i [] ≡ getD ws j [] → i ≡ j
+-- so no word stands at two places
+pub sorted-once : (ws : List (List ℕ)) (i j : ℕ) → Sorted ws → i < length ws → j < length ws → getD ws i [] ≡ getD ws j [] → i ≡ j
 sorted-once ws i j s a b e = go (lt? i j) (lt? j i)
   where
     go : (i < j) ⊎ (j ≤ i) → (j < i) ⊎ (i ≤ j) → i ≡ j
@@ -40,16 +36,6 @@ sorted-once ws i j s a b e = go (lt? i j) (lt? j i)
     go (inr l) (inr r) = omega arith
 
 -- ---- where a word stands
-
-pub same-same : (u : List ℕ) → same u u ≡ true
-same-same [] = refl
-same-same (x ∷ u) = rw (eqb-same x) (same-same u)
-
-pub same-equal : (u v : List ℕ) → same u v ≡ true → u ≡ v
-same-equal [] [] e = refl
-same-equal [] (y ∷ v) e = absurd (true≢false (sym e))
-same-equal (x ∷ u) [] e = absurd (true≢false (sym e))
-same-equal (x ∷ u) (y ∷ v) e = let q = both-true (eqb x y) (same u v) e in rw (eqb-true x y (q .0), same-equal u v (q .1))
 
 record Found (w : List ℕ) (ws : List (List ℕ)) : Type 0 where
   below : place w ws < length ws
@@ -60,8 +46,8 @@ found w [] m = absurd (List·Memᴰ·not-nil m)
 found w (v ∷ ws) m = go (same w v) refl (⊎-elim (λ e. inl e) (λ n. inr (found w ws n)) (List·Memᴰ·cases-cons m))
   where
     go : (b : Bool) → same w v ≡ b → (w ≡ v) ⊎ Found w ws → Found w (v ∷ ws)
-    go true e r = record { below = rw e (omega arith); there = rw e (sym (same-equal w v e)) }
-    go false e (inl q) = absurd (true≢false (sym (same-same v) ∙ rw q at e))
+    go true e r = record { below = rw e (omega arith); there = rw e (sym (same-true w v e)) }
+    go false e (inl q) = absurd (true≢false (sym (same-self v) ∙ rw q at e))
     go false e (inr f) = record { below = rw e (let i = f .below in omega arith); there = rw e (f .there) }
 
 -- ---- positions of a size
@@ -69,7 +55,7 @@ found w (v ∷ ws) m = go (same w v) refl (⊎-elim (λ e. inl e) (λ n. inr (fo
 pub at-word : (n p : ℕ) → Edge (count n) p → Word n (wordAt n p)
 unfolding wordAt count
 at-word n zero e = absurd (omega arith)
-at-word n (suc i) e = all-at (Word n) (listing n) i (listing-sound n) (e .1)
+at-word n (suc i) e = all-at (Word n) (listing n) i [] (listing-sound n) (e .1)
 
 pub at-once : (n p q : ℕ) → Edge (count n) p → Edge (count n) q → wordAt n p ≡ wordAt n q → p ≡ q
 unfolding wordAt count

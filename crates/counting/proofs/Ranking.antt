@@ -8,14 +8,15 @@ use mathlib.Core.List.{List, [], _∷_, _++_}
 use lib.Dec.{ltb}
 use lib.ListN.{length, getD, List·getD-append}
 use lib.Seq.{getD-append-add}
-use Rattle.lists.specs.Lists.{pick, at}
+use Rattle.lists.specs.Lists.{pick}
 use Rattle.lists.proofs.Tests.{lt-true, lt-false, lt?}
 use Rattle.words.specs.Shape.{pre, less1, less3, Fits}
 use Rattle.counting.specs.Listing.{each, fan, ends, tails, ways}
 use Rattle.counting.specs.Ranking.{jump, forks, buds, unranked, rank}
-use Rattle.counting.proofs.Tails.{length-each, length-tails, pre-le, ways-by, ways-0-0, ways-suc}
+use Rattle.counting.proofs.Tails.{length-each, pre-le, tails-0, tails-ways, ways-0-0, ways-suc}
 
-getD-each : (x i : ℕ) (ws : List (List ℕ)) → i < length ws → getD (each x ws) i [] ≡ x ∷ getD ws i []
+-- the word at a place of `each`
+pub getD-each : (x i : ℕ) (ws : List (List ℕ)) → i < length ws → getD (each x ws) i [] ≡ x ∷ getD ws i []
 getD-each x i [] h = absurd (not-suc-le-zero h)
 getD-each x zero (w ∷ ws) h = refl
 getD-each x (suc i) (w ∷ ws) h = getD-each x i ws (omega arith)
@@ -37,12 +38,10 @@ fan-at x (suc j) n i ws k l a h =
     split (each x ws) (fan (suc x) j ws) n i (x ∷ k i) (jump (suc x) j n (i - n) k) (length-each x ws ∙ l) (λ b. getD-each x i ws (rw l b) ∙ ap (λ (w : List ℕ). x ∷ w) (a i b))
     (λ b. fan-at (suc x) j n (i - n) ws k l a (omega arith))
 
-ways-parts : (h f : ℕ) → ways (suc h) f ≡ ways h f + (forks h f + (buds h f + h * ways (pre h) f))
+-- the ways to go on at a stack of height h + 1, by their first event
+pub ways-parts : (h f : ℕ) → ways (suc h) f ≡ ways h f + (forks h f + (buds h f + h * ways (pre h) f))
 unfolding forks buds
 ways-parts h f = ways-suc h f
-
-tails-ways : (m h f : ℕ) → h + f ≤ m → length (tails m h f) ≡ ways h f
-tails-ways m h f l = length-tails m h f ∙ ways-by m h f l
 
 forks-ways : (m h f : ℕ) → suc h + f ≤ suc m → length (less3 f [] (λ g. tails m (suc (suc h)) g)) ≡ forks h f
 unfolding forks
@@ -67,18 +66,18 @@ ends-at zero zero = refl
 ends-at zero (suc i) = refl
 ends-at (suc f) i = refl
 
-pub at-place : (m h f i : ℕ) → h + f ≤ m → i < ways h f → getD (tails m h f) i [] ≡ unranked m h f i
+pub unranked-at : (m h f i : ℕ) → h + f ≤ m → i < ways h f → getD (tails m h f) i [] ≡ unranked m h f i
 unfolding tails unranked
-at-place zero zero f i l b = ends-at f i
-at-place zero (suc h) f i l b = absurd (omega arith)
-at-place (suc m) zero f i l b = ends-at f i
-at-place (suc m) (suc h) f i l b =
+unranked-at zero zero f i l b = ends-at f i
+unranked-at zero (suc h) f i l b = absurd (omega arith)
+unranked-at (suc m) zero f i l b = ends-at f i
+unranked-at (suc m) (suc h) f i l b =
     four (each 0 t0) (each 1 t1) (each 2 t2) (fan 3 h t3) (ways h f) (forks h f) (buds h f) (h * ways (pre h) f) i _ _ _ _
     (length-each 0 t0 ∙ tails-ways m h f (omega arith)) (length-each 1 t1 ∙ forks-ways m h f l) (length-each 2 t2 ∙ buds-ways m h f l) (rw ways-parts at b)
-    (λ c. getD-each 0 i t0 (rw (tails-ways m h f (omega arith)) c) ∙ ap (λ (w : List ℕ). 0 ∷ w) (at-place m h f i (omega arith) c))
-    (λ c. getD-each 1 (i - ways h f) t1 (rw (forks-ways m h f l) c) ∙ ap (λ (w : List ℕ). 1 ∷ w) (forked f l (i - ways h f) c (λ g. at-place m (suc (suc h)) g)))
-    (λ c. getD-each 2 (i - ways h f - forks h f) t2 (rw (buds-ways m h f l) c) ∙ ap (λ (w : List ℕ). 2 ∷ w) (budded f l (i - ways h f - forks h f) c (λ g. at-place m h g)))
-    (λ c. fan-at 3 h (ways (pre h) f) (i - ways h f - forks h f - buds h f) t3 (λ k. unranked m (pre h) f k) (tails-ways m (pre h) f (let z = pre-le h in omega arith)) (λ j d. at-place m (pre h) f j (let z = pre-le h in omega arith) d) c)
+    (λ c. getD-each 0 i t0 (rw (tails-ways m h f (omega arith)) c) ∙ ap (λ (w : List ℕ). 0 ∷ w) (unranked-at m h f i (omega arith) c))
+    (λ c. getD-each 1 (i - ways h f) t1 (rw (forks-ways m h f l) c) ∙ ap (λ (w : List ℕ). 1 ∷ w) (forked f l (i - ways h f) c (λ g. unranked-at m (suc (suc h)) g)))
+    (λ c. getD-each 2 (i - ways h f - forks h f) t2 (rw (buds-ways m h f l) c) ∙ ap (λ (w : List ℕ). 2 ∷ w) (budded f l (i - ways h f - forks h f) c (λ g. unranked-at m h g)))
+    (λ c. fan-at 3 h (ways (pre h) f) (i - ways h f - forks h f - buds h f) t3 (λ k. unranked m (pre h) f k) (tails-ways m (pre h) f (let z = pre-le h in omega arith)) (λ j d. unranked-at m (pre h) f j (let z = pre-le h in omega arith) d) c)
   where
     t0 : List (List ℕ)
     t0 = tails m h f
@@ -120,11 +119,6 @@ fan-place x (suc j) zero n i ws X l h b e =
 fan-place x (suc j) (suc d) n i ws X l h b e =
     let z : suc d * n + i ≡ n + (d * n + i) = rw suc-mul (omega arith) in
     rw (z, add-suc, ← suc-add) (skip (each x ws) (fan (suc x) j ws) n (d * n + i) _ (length-each x ws ∙ l) (fan-place (suc x) j d n i ws X l (omega arith) b e))
-
-tails-0 : (m f : ℕ) → tails m 0 f ≡ ends f
-unfolding tails
-tails-0 zero f = refl
-tails-0 (suc m) f = refl
 
 pub record Placed (h f : ℕ) (w : List ℕ) : Type 0 where
   pub lt : rank h f w < ways h f

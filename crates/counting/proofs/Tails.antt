@@ -1,12 +1,12 @@
 -- `tails` holds exactly the ways to go on, in dictionary order, each once, and `ways` counts them.
 use mathlib.Core.Path.{_≡_, refl, sym, ap, _∙_}
-use Prim.Native.Nat.{ℕ, zero, suc, _+_, _*_, _-_, _≤_, _<_}
-use native.Mathlib.Nat.{add-zero, zero-add, add-suc, suc-add, not-suc-le-zero, suc-mul}
+use Prim.Native.Nat.{ℕ, zero, suc, _+_, _*_, _≤_, _<_}
+use native.Mathlib.Nat.{add-zero, add-suc, suc-add, not-suc-le-zero, suc-mul}
 use native.Mathlib.Omega.{arith}
 use mathlib.Core.List.{List, [], _∷_, _++_, List·Memᴰ, List·Memᴰ·head, List·Memᴰ·tail, Memᴰ·append-left, Memᴰ·append-right}
 use mathlib.Core.Logic.{inl, inr}
 use lib.ListN.{length, length-append}
-use Rattle.lists.specs.Lists.{at, All}
+use Rattle.lists.specs.Lists.{All}
 use Rattle.lists.proofs.Lists.{all-append, all-map, all-mem}
 use Rattle.words.specs.Order.{Before}
 use Rattle.words.specs.Shape.{pre, less1, less3, Fits}
@@ -201,8 +201,10 @@ length-tails (suc m) (suc h) f = simp (length-append, length-each, length-fan, l
 pub once : (w : List ℕ) (ws : List (List ℕ)) → Sorted (w ∷ ws) → ¬ List·Memᴰ w ws
 once w ws s m = before-irrefl w (all-mem (Before w) ws (s .0) m)
 
--- more than h + f calls change nothing
-join : (h : ℕ) (a a′ b b′ c c′ d d′ : List (List ℕ)) → a ≡ a′ → b ≡ b′ → c ≡ c′ → d ≡ d′ → each 0 a ++ (each 1 b ++ (each 2 c ++ fan 3 h d)) ≡ each 0 a′ ++ (each 1 b′ ++ (each 2 c′ ++ fan 3 h d′))
+-- ---- any bound from h + f on gives the same list
+
+-- ways to go on by their first event, the same where those after each event are
+pub join : (h : ℕ) (a a′ b b′ c c′ d d′ : List (List ℕ)) → a ≡ a′ → b ≡ b′ → c ≡ c′ → d ≡ d′ → each 0 a ++ (each 1 b ++ (each 2 c ++ fan 3 h d)) ≡ each 0 a′ ++ (each 1 b′ ++ (each 2 c′ ++ fan 3 h d′))
 join h a a′ b b′ c c′ d d′ p q r s = cc
 
 pub less1-same {ℓ} : {A : Type ℓ} (f : ℕ) (z : A) (k k′ : ℕ → A) → ((g : ℕ) → f ≡ suc g → k g ≡ k′ g) → less1 f z k ≡ less1 f z k′
@@ -219,32 +221,37 @@ pub pre-le : (h : ℕ) → pre h ≤ h
 pre-le zero = omega arith
 pre-le (suc h) = omega arith
 
-tails-more : (m h f : ℕ) → h + f ≤ m → tails (suc m) h f ≡ tails m h f
+-- an emptied stack
+pub tails-0 : (m f : ℕ) → tails m 0 f ≡ ends f
 unfolding tails
-tails-more zero zero f l = refl
-tails-more zero (suc h) f l = absurd (omega arith)
-tails-more (suc m) zero f l = refl
-tails-more (suc m) (suc h) f l =
-    join h _ _ _ _ _ _ _ _ (tails-more m h f (omega arith)) (less3-same f [] _ _ (λ g q. tails-more m (suc (suc h)) g (omega arith))) (less1-same f [] _ _ (λ g q. tails-more m h g (omega arith)))
-    (let i = pre-le h in tails-more m (pre h) f (omega arith))
+tails-0 zero f = refl
+tails-0 (suc m) f = refl
 
-ways-more : (m h f : ℕ) → h + f ≤ m → ways-in (suc m) h f ≡ ways-in m h f
-ways-more m h f l = sym (length-tails (suc m) h f) ∙ ap length (tails-more m h f l) ∙ length-tails m h f
-
-pub ways-enough : (x h f : ℕ) → ways-in (x + (h + f)) h f ≡ ways h f
-unfolding ways
-ways-enough zero h f = rw zero-add
-ways-enough (suc x) h f = rw suc-add (ways-more (x + (h + f)) h f (omega arith) ∙ ways-enough x h f)
+pub tails-same : (m k h f : ℕ) → h + f ≤ m → h + f ≤ k → tails m h f ≡ tails k h f
+unfolding tails
+tails-same zero k zero f a b = sym (tails-0 k f)
+tails-same zero k (suc h) f a b = absurd (omega arith)
+tails-same (suc m) k zero f a b = sym (tails-0 k f)
+tails-same (suc m) zero (suc h) f a b = absurd (omega arith)
+tails-same (suc m) (suc k) (suc h) f a b =
+    join h _ _ _ _ _ _ _ _ (tails-same m k h f (omega arith) (omega arith)) (less3-same f [] _ _ (λ g q. tails-same m k (suc (suc h)) g (omega arith) (omega arith)))
+    (less1-same f [] _ _ (λ g q. tails-same m k h g (omega arith) (omega arith))) (let i = pre-le h in tails-same m k (pre h) f (omega arith) (omega arith))
 
 pub ways-by : (m h f : ℕ) → h + f ≤ m → ways-in m h f ≡ ways h f
-ways-by m h f l = let e : (m - (h + f)) + (h + f) ≡ m = omega arith in rw e at (ways-enough (m - (h + f)) h f)
+unfolding ways
+ways-by m h f l = sym (length-tails m h f) ∙ ap length (tails-same m (h + f) h f l (omega arith)) ∙ length-tails (h + f) h f
+
+-- how many they are
+pub tails-ways : (m h f : ℕ) → h + f ≤ m → length (tails m h f) ≡ ways h f
+tails-ways m h f l = length-tails m h f ∙ ways-by m h f l
 
 ways-in-0 : (m f : ℕ) → ways-in m 0 f ≡ length (ends f)
 unfolding ways-in
 ways-in-0 zero f = refl
 ways-in-0 (suc m) f = refl
 
-sum : (h a a′ b b′ c c′ d d′ : ℕ) → a ≡ a′ → b ≡ b′ → c ≡ c′ → d ≡ d′ → a + (b + (c + h * d)) ≡ a′ + (b′ + (c′ + h * d′))
+-- `join` for their numbers
+pub sum : (h a a′ b b′ c c′ d d′ : ℕ) → a ≡ a′ → b ≡ b′ → c ≡ c′ → d ≡ d′ → a + (b + (c + h * d)) ≡ a′ + (b′ + (c′ + h * d′))
 sum h a a′ b b′ c c′ d d′ p q r s = cc
 
 -- the recurrence

@@ -5,11 +5,9 @@
 --   position n w        the position of the word w
 use Prim.Native.Nat.{ℕ, zero, suc}
 use mathlib.Core.List.{List, [], _∷_}
-use mathlib.Core.Bool.{Bool, true, false}
-use lib.Dec.{eqb}
 use lib.ListN.{getD}
 use Rattle.lists.specs.Lists.{pick}
-use Rattle.labelling.specs.Rootings.{same}
+use Rattle.words.specs.Order.{same}
 use Rattle.counting.specs.Listing.{listing}
 
 abbrev pub nth : List (List ℕ) → ℕ → List ℕ

@@ -6,8 +6,9 @@ use mathlib.Core.List.{List, [], _∷_}
 use Prim.Native.Nat.{ℕ, zero, suc, _<_, _≤_}
 use native.Mathlib.Omega.{arith}
 use lib.ListN.{length, getD, List·getD-eq-default}
+use Rattle.lists.specs.Lists.{at}
 use Rattle.lists.proofs.Tests.{same?, lt?}
-use Rattle.diagrams.specs.Diagram.{Rooted}
+use Rattle.diagrams.specs.Diagram.{Maps, Diagram, Rooted}
 use Rattle.diagrams.specs.Check.{Size, Lengths, Root, Entries, Thrice, Twice, Connected, Accepts, Refuses, no-size, no-lengths, no-root, no-blacks, no-whites, no-thrice, no-twice, no-path, Checked}
 use Rattle.diagrams.specs.Search.{Mapped}
 use Rattle.diagrams.specs.declared.Verdict.{Verdict}
@@ -40,6 +41,15 @@ accepts-rooted s0 s1 root = (to, from)
       twice = rw (r .1 .lengths) (r .1 .diagram .maps .twice);
       connected = r .1 .diagram .connected;
     }
+
+pub accepts-diagram : (s0 s1 : List ℕ) (root : ℕ) → Accepts s0 s1 root → Diagram (length s0) (at s0) (at s1)
+accepts-diagram s0 s1 root a = accepts-rooted s0 s1 root .0 a .1 .diagram
+
+pub accepts-maps : (s0 s1 : List ℕ) (root : ℕ) → Accepts s0 s1 root → Maps (length s0) (at s0) (at s1)
+accepts-maps s0 s1 root a = accepts-diagram s0 s1 root a .maps
+
+pub accepts-mapped : {s0 s1 : List ℕ} {root : ℕ} → Accepts s0 s1 root → Mapped s0 s1
+accepts-mapped {s0} {s1} {root} a = record { size = a .size; lengths = a .lengths; maps = accepts-maps s0 s1 root a }
 
 -- ---- each number has its condition, and there is one answer only
 

@@ -1,19 +1,14 @@
 -- Laws of a diagram held by value: a list filled into an array of zeros is padded, and what a diagram holds determines it.
 use mathlib.Core.Path.{_≡_, sym, _∙_}
 use mathlib.Core.List.{List, _++_}
-use Prim.Native.Nat.{ℕ, zero, suc, _-_, _≤_}
-use native.Mathlib.Omega.{arith}
+use Prim.Native.Nat.{ℕ, _-_, _≤_}
 use lib.Dec.{leb}
 use lib.ListN.{length, drop, replicate, length-replicate}
 use Rattle.lists.specs.Lists.{pick}
 use Rattle.lists.proofs.Tests.{le-true}
+use Rattle.lists.proofs.Lists.{drop-zeros}
 use Rattle.diagrams.specs.Held.{padded, Held}
 use Rattle.diagrams.specs.declared.Diagram.{Diagram}
-
-drop-zeros : (m n : ℕ) → n ≤ m → drop {A = ℕ} n (replicate m 0) ≡ replicate (m - n) 0
-drop-zeros m zero h = let e : m - 0 ≡ m = omega arith in rw e
-drop-zeros zero (suc n) h = absurd (omega arith)
-drop-zeros (suc m) (suc n) h = let e : suc m - suc n ≡ m - n = omega arith in rw e (drop-zeros m n (omega arith))
 
 filled : (m : ℕ) (s : List ℕ) → length s ≤ m → pick (leb (length s) (length (replicate {A = ℕ} m 0))) (s ++ drop (length s) (replicate m 0)) (replicate m 0) ≡ s ++ replicate (m - length s) 0
 filled m s h = rw (length-replicate {A = ℕ} m 0, le-true (length s) m h, drop-zeros m (length s) h)

@@ -1,4 +1,3 @@
-pub mod Entries
 pub mod Answers
 pub mod Diagrams
 pub mod Isomorphisms

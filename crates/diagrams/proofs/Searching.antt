@@ -1,7 +1,7 @@
 -- Laws of the search: an edge is put on the list at most once, so the list has room; and a list that holds edge 1 and, with each
 -- edge, both its neighbours, holds every edge that is reached.
 use mathlib.Core.Path.{_≡_, refl, sym, ap, _∙_}
-use mathlib.Core.Logic.{_≢_, _⊎_, inl, inr, ⊎-elim, _↔_}
+use mathlib.Core.Logic.{_≢_, _⊎_, inl, inr, _↔_}
 use mathlib.Core.List.{List, [], _∷_, _++_}
 use Prim.Native.Nat.{ℕ, zero, suc, _+_, _-_, _≤_, _<_}
 use native.Mathlib.Omega.{arith}
@@ -9,36 +9,14 @@ use native.Mathlib.Numerals.{add-one}
 use lib.ListN.{length, getD, take, set, replicate, length-set, length-replicate}
 use lib.Seq.{length-take-le, take-suc-set, take-set-le, take-suc, take-all, take-append-le, getD-take, set-getD}
 use Rattle.lists.specs.Lists.{at, put, Has, has, Apart}
-use Rattle.lists.specs.Ranges.{Edge, down}
+use Rattle.lists.specs.Ranges.{Edge}
 use Rattle.lists.proofs.Tests.{same?, pick-all}
-use Rattle.lists.proofs.Lists.{has-true, has-false, has?, pigeons, has-getD, at-put-same, at-put-other, length-1}
-use Rattle.lists.proofs.Ranges.{has-down, length-down}
+use Rattle.lists.proofs.Lists.{has-true, has-false, has?, has-snoc, snoc-has, apart-snoc, has-getD, at-put-same, at-put-other, at-place, put-place, at-zeros, length-1}
+use Rattle.lists.proofs.Ranges.{edges-few}
 use Rattle.diagrams.specs.Diagram.{Reached, here, black, white}
 use Rattle.diagrams.specs.Check.{Connected, AllOne}
 use Rattle.diagrams.specs.Search.{Mapped, joined, Search}
 use Rattle.diagrams.proofs.Diagrams.{edge-one, reached-edge}
-use Rattle.diagrams.proofs.Entries.{at-place, put-place}
-
--- ---- one more element at the end
-
-has-left : (x : ℕ) (l m : List ℕ) → Has x l → Has x (l ++ m)
-has-left x [] m h = absurd h
-has-left x (y ∷ l) m (inl e) = inl e
-has-left x (y ∷ l) m (inr h) = inr (has-left x l m h)
-
-has-last : (x : ℕ) (l : List ℕ) → Has x (l ++ (x ∷ []))
-has-last x [] = inl refl
-has-last x (y ∷ l) = inr (has-last x l)
-
-last-or : (x y : ℕ) (l : List ℕ) → Has y (l ++ (x ∷ [])) → Has y l ⊎ (y ≡ x)
-last-or x y [] (inl e) = inr e
-last-or x y [] (inr h) = absurd h
-last-or x y (z ∷ l) (inl e) = inl (inl e)
-last-or x y (z ∷ l) (inr h) = ⊎-elim (λ i. inl (inr i)) inr (last-or x y l h)
-
-apart-last : (x : ℕ) (l : List ℕ) → Apart l → ¬ Has x l → Apart (l ++ (x ∷ []))
-apart-last x [] a n = (λ h. h, tt)
-apart-last x (y ∷ l) a n = (λ h. ⊎-elim (a .0) (λ e. n (inl (sym e))) (last-or x y l h), apart-last x l (a .1) (λ h. n (inr h)))
 
 -- ---- an edge on the list is there once
 
@@ -49,11 +27,11 @@ joined-new : (x : ℕ) (l : List ℕ) → ¬ Has x l → joined x l ≡ l ++ (x 
 joined-new x l n = rw (has-false x l n)
 
 room : (n x : ℕ) (l : List ℕ) → Apart l → ((y : ℕ) → Has y l → Edge n y) → Edge n x → ¬ Has x l → length l < n
-room n x l a k e m = rw length-down at (pigeons (x ∷ l) (down n) (m, a) inside)
+room n x l a k e m = edges-few n (x ∷ l) (m, a) inside
   where
-    inside : (y : ℕ) → Has y (x ∷ l) → Has y (down n)
-    inside y (inl q) = has-down n y (rw q e)
-    inside y (inr h) = has-down n y (k y h)
+    inside : (y : ℕ) → Has y (x ∷ l) → Edge n y
+    inside y (inl q) = rw q e
+    inside y (inr h) = k y h
 
 module _ {marks list : List ℕ} {count : ℕ} (s : Search marks list count) where
   marked-there : (x : ℕ) → at marks x ≡ 1 → Has x (take count list)
@@ -106,9 +84,9 @@ module _ {marks list : List ℕ} {count : ℕ} (s : Search marks list count) whe
         record {
           room = rw (length-set marks (x - 1) 1, length-set list count x) (s .room);
           count-fits = rw (length-set marks (x - 1) 1) (let l = below in omega arith);
-          edges = rw (length-set marks (x - 1) 1, longer) (λ y h. go y (last-or x y (take count list) h));
-          apart = rw longer (apart-last x (take count list) (s .apart) new);
-          reached = rw (longer, put-place marks x 1 (e .0)) (λ y h. mark y (same? y x) (last-or x y (take count list) h));
+          edges = rw (length-set marks (x - 1) 1, longer) (λ y h. go y (has-snoc y (take count list) x h));
+          apart = rw longer (apart-snoc (take count list) x (s .apart) new);
+          reached = rw (longer, put-place marks x 1 (e .0)) (λ y h. mark y (same? y x) (has-snoc y (take count list) x h));
           other = rw (longer, put-place marks x 1 (e .0)) (λ y m. unmarked y m);
         },
         longer ∙ sym (joined-new x (take count list) new),
@@ -124,7 +102,7 @@ module _ {marks list : List ℕ} {count : ℕ} (s : Search marks list count) whe
           mark y (inr d) (inr q) = absurd (d q)
 
           unmarked : (y : ℕ) → ¬ Has y (take count list ++ (x ∷ [])) → at (put marks x 1) y ≡ 0
-          unmarked y m = at-put-other marks x 1 y (λ q. m (rw q (has-last x (take count list)))) ∙ s .other y (λ h. m (has-left y (take count list) (x ∷ []) h))
+          unmarked y m = at-put-other marks x 1 y (λ q. m (rw q (snoc-has x (take count list) x (inr refl)))) ∙ s .other y (λ h. m (snoc-has y (take count list) x (inl h)))
 
     -- x is marked, written at the end and counted unless it was marked before
     pub search-reach : (r : ℕ) → r ≡ count + (1 - getD marks (x - 1) 0)
@@ -155,17 +133,17 @@ pub record Found (f g : ℕ → ℕ) (l : List ℕ) (done : ℕ) : Type 0 where
   pub closed : (x : ℕ) → Has x (take done l) → Has (f x) l × Has (g x) l
 
 joined-keeps : (x y : ℕ) (l : List ℕ) → Has y l → Has y (joined x l)
-joined-keeps x y l h = pick-all (Has y) (has x l) l (l ++ (x ∷ [])) (λ e. h) (λ e. has-left y l (x ∷ []) h)
+joined-keeps x y l h = pick-all (Has y) (has x l) l (l ++ (x ∷ [])) (λ e. h) (λ e. snoc-has y l x (inl h))
 
 joined-has : (x : ℕ) (l : List ℕ) → Has x (joined x l)
 joined-has x l = go (has? x l)
   where
     go : Has x l ⊎ (¬ Has x l) → Has x (joined x l)
     go (inl h) = rw (joined-there x l h) h
-    go (inr m) = rw (joined-new x l m) (has-last x l)
+    go (inr m) = rw (joined-new x l m) (snoc-has x l x (inr refl))
 
 joined-sound : (P : ℕ → Type 0) (x : ℕ) (l : List ℕ) → P x → ((y : ℕ) → Has y l → P y) → (y : ℕ) → Has y (joined x l) → P y
-joined-sound P x l p k y = pick-all (λ m. Has y m → P y) (has x l) l (l ++ (x ∷ [])) (λ e. k y) (λ e h. go (last-or x y l h))
+joined-sound P x l p k y = pick-all (λ m. Has y m → P y) (has x l) l (l ++ (x ∷ [])) (λ e. k y) (λ e h. go (has-snoc y l x h))
   where
     go : Has y l ⊎ (y ≡ x) → P y
     go (inl h) = k y h
@@ -191,7 +169,7 @@ module _ (f g : ℕ → ℕ) where
       first = keeps 1 (F .first);
       sound = joined-sound (Reached f g 1) (g k) (joined (f k) l) (white there) (joined-sound (Reached f g 1) (f k) l (black there) (F .sound));
       visited = let i = joined-longer (f k) l in let j = joined-longer (g k) (joined (f k) l) in omega arith;
-      closed = rw (before, add-one, take-suc l done 0 h, ← e) (λ x m. near x (last-or k x (take done l) m));
+      closed = rw (before, add-one, take-suc l done 0 h, ← e) (λ x m. near x (has-snoc x (take done l) k m));
     }
       where
         there : Reached f g 1 k
@@ -214,12 +192,6 @@ module _ (f g : ℕ → ℕ) where
     found-all h (white {x = y} p) = F .closed y (rw (take-all done l h) (found-all h p)) .1
 
 -- ---- the search's first state, its step and its end, as the code has them
-
-at-zeros : (n x : ℕ) → at (replicate n 0) x ≡ 0
-at-zeros n zero = refl
-at-zeros zero (suc i) = refl
-at-zeros (suc n) (suc zero) = refl
-at-zeros (suc n) (suc (suc i)) = at-zeros n (suc i)
 
 pub search-none : (n : ℕ) → Search (replicate n 0) (replicate (n + 1) 0) 0
 search-none n = record {

@@ -11,8 +11,9 @@ use lib.ListN.{getD, replicate, length-replicate, getD-replicate}
 use Rattle.lists.specs.Lists.{at}
 use Rattle.lists.specs.Ranges.{Edge, tally, top}
 use Rattle.lists.proofs.Tests.{same?, lt?}
+use Rattle.lists.proofs.Ranges.{tally-most}
 use Rattle.cycles.specs.Cycles.{Perm, Same, least, cycles, period, longest}
-use Rattle.cycles.proofs.Tallies.{tally-most, top-over}
+use Rattle.cycles.proofs.Tallies.{top-over}
 use Rattle.cycles.proofs.Cycles.{same-trans, same-sym, same-in, not-least, below-least}
 use Rattle.cycles.proofs.Carried.{period-same}
 use Rattle.invariants.specs.Marks.{Marked, Walked}

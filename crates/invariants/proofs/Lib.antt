@@ -1,4 +1,3 @@
-pub mod Accepted
 pub mod FixedEdges
 pub mod Walks
 pub mod Counts

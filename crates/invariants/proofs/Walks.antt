@@ -10,9 +10,8 @@ use lib.ListN.{length, getD, set}
 use Rattle.lists.specs.Lists.{at, put}
 use Rattle.lists.specs.Ranges.{Edge}
 use Rattle.lists.proofs.Tests.{same?}
-use Rattle.lists.proofs.Lists.{length-put, at-put-same, at-put-other}
+use Rattle.lists.proofs.Lists.{length-put, at-put-same, at-put-other, at-place, put-place}
 use Rattle.diagrams.specs.Search.{Mapped}
-use Rattle.diagrams.proofs.Entries.{at-place, put-place}
 use Rattle.cycles.specs.Cycles.{Perm, around, after, Same, period}
 use Rattle.cycles.proofs.Cycles.{after-in, Period, period-is, period-most, after-period}
 use Rattle.invariants.specs.Marks.{Marked, Walked}

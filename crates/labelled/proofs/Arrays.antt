@@ -1,16 +1,17 @@
 -- Laws of the label arrays: giving the next label, taking the last one back, and seeing a list through the labels.
 use mathlib.Core.Path.{_≡_, refl, sym, _∙_}
 use mathlib.Core.Logic.{_≢_, _⊎_, inl, inr}
-use mathlib.Core.List.{List, [], _∷_, _++_, append-assoc}
+use mathlib.Core.List.{List, [], _∷_, _++_}
 use Prim.Native.Nat.{ℕ, zero, suc, _+_, _-_, _≤_, _<_}
 use native.Mathlib.Omega.{arith}
 use native.Mathlib.Numerals.{add-one}
-use lib.ListN.{length, getD, set, drop, replicate, length-set, length-append, length-drop, length-replicate}
-use lib.Seq.{getD-set-same, getD-set-other, drop-cons, set-at}
+use lib.ListN.{length, getD, set, drop, replicate, length-set, length-replicate}
+use lib.Seq.{getD-set-same, getD-set-other}
 use Rattle.lists.specs.Lists.{at, listed, Has, Apart}
 use Rattle.lists.specs.Ranges.{Edge}
 use Rattle.lists.proofs.Tests.{same?, eqb-same, eqb-ne}
 use Rattle.lists.proofs.Lists.{length-listed}
+use Rattle.lists.proofs.Copies.{written-more, written-length}
 use Rattle.pending.proofs.Laws.{ring-empty}
 use Rattle.labelling.specs.Labelling.{lab, edge, relabel}
 use Rattle.labelling.proofs.Labels.{lab-in}
@@ -104,7 +105,7 @@ unfolding relabel
 seen s la od o j h i = rw (add-one, h .edge-of (suc j) (let l = h .given-is in omega arith)) (h .label-of (at s (edge o (suc j))))
 
 pub listed-more : (f : ℕ → ℕ) (t : List ℕ) (j : ℕ) → j < length t → set (listed f j ++ drop j t) j (f (suc j)) ≡ listed f (j + 1) ++ drop (j + 1) t
-listed-more f t j h = rw (drop-cons t j 0 h, set-at (listed f j) (getD t j 0) (drop (suc j) t) (f (suc j)) j (length-listed f j), add-one, append-assoc)
+listed-more f t j h = written-more t (listed f j) j (f (suc j)) (length-listed f j) h ∙ rw add-one
 
 pub listed-length : (f : ℕ → ℕ) (t : List ℕ) (j : ℕ) → j ≤ length t → length (listed f j ++ drop j t) ≡ length t
-listed-length f t j h = simp (length-append, length-listed, length-drop) (omega arith)
+listed-length f t j h = written-length t (listed f j) j (length-listed f j) h

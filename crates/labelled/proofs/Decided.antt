@@ -11,14 +11,13 @@ use lib.ListN.{length, getD, set, take, drop, take-append-drop, length-append, d
 use lib.Seq.{drop-cons, take-suc, take-at, take-append-seam}
 use Rattle.lists.specs.Lists.{at, pick}
 use Rattle.lists.proofs.Tests.{lt?, lt-true, lt-false, same?, eqb-same, eqb-ne}
-use Rattle.words.specs.Order.{precedes}
+use Rattle.diagrams.proofs.Checks.{accepts-maps}
+use Rattle.words.specs.Order.{precedes, same}
 use Rattle.labelling.specs.Labelling.{move, wordOf}
-use Rattle.labelling.specs.Rootings.{same}
 use Rattle.labelling.proofs.Along.{size}
 use Rattle.labelled.specs.Scratch.{Underway, opening, Did}
 use Rattle.labelled.specs.Traced.{goesOn, Traced, Followed}
 use Rattle.labelled.specs.declared.events.Turn.{Turn}
-use Rattle.labelled.proofs.Underway.{accepts-maps}
 use Rattle.labelled.proofs.Sofar.{sofar-empty, sofar-word, sofar-end, Filled, filled-begin, filled-few, filled-more}
 
 pub Decided : List ℕ → List ℕ → Type 0

@@ -5,20 +5,20 @@ use mathlib.Core.Bool.{Bool, true, false}
 use mathlib.Core.List.{List, [], _∷_, _++_, append-assoc, append-nil}
 use Prim.Native.Nat.{ℕ, zero, suc, _+_, _≤_, _<_}
 use native.Mathlib.Omega.{arith}
-use native.Mathlib.Numerals.{add-one}
 use lib.Dec.{eqb}
-use lib.ListN.{length, getD, set, drop, length-append, length-drop}
-use lib.Seq.{drop-cons, set-at, drop-set-lt}
+use lib.ListN.{length, getD, set, drop, length-append}
+use lib.Seq.{drop-set-lt}
 use Rattle.lists.specs.Lists.{at, Has}
 use Rattle.lists.specs.Ranges.{Edge}
+use Rattle.lists.proofs.Copies.{written-more, written-length}
 use Rattle.diagrams.specs.Check.{Accepts}
+use Rattle.diagrams.proofs.Checks.{accepts-diagram, accepts-maps}
 use Rattle.pending.proofs.Laws.{ring-top}
 use Rattle.labelling.specs.Labelling.{move, Labelled, run, first, label, edge, labels, wordOf}
 use Rattle.labelling.proofs.Along.{falls, size}
 use Rattle.labelling.proofs.Labels.{Done, done, whole, edge-n}
 use Rattle.labelled.specs.Scratch.{Holds, HoldsSome, Underway, opening, Did, Wrote}
 use Rattle.labelled.specs.declared.events.Turn.{Turn}
-use Rattle.labelled.proofs.Underway.{accepts-maps, accepts-diagram}
 
 -- the items w before what is to come
 abbrev pub after : List ℕ → Labelled → Labelled
@@ -161,7 +161,7 @@ module _ (s0 s1 : List ℕ) (root : ℕ) (la od nx pv : List ℕ) (c : ℕ) (w a
   filled-few = let i = F .sofar .moves in let j = F .counted in omega arith
 
   pub filled-length : length s0 < length a → length b ≡ length a
-  filled-length h = rw (F .written) (simp (length-append, length-drop) (let i = filled-few in let j = F .counted in omega arith))
+  filled-length h = rw (F .written) (written-length a w m (F .counted) (let i = filled-few in omega arith))
 
   -- while an edge is pending: the event's state, and room for its item
   pub filled-event : getD nx 0 0 ≢ 0 → (o : List ℕ) × (k : ℕ) × (r : List ℕ) × Underway s0 s1 la od nx pv c o (k ∷ r)
@@ -183,7 +183,7 @@ module _ (s0 s1 : List ℕ) (root : ℕ) (la od nx pv : List ℕ) (c : ℕ) (w a
       record {
         sofar = sofar-event s0 s1 root la od nx pv c w (F .sofar) k r q la′ od′ nx′ pv′ e (d (F .sofar .marked) k r (rw q at (F .sofar .underway)));
         counted = simp length-append (let j = F .counted in omega arith);
-        written = rw (F .written, drop-cons a m 0 (omega arith), set-at w (getD a m 0) (drop (suc m) a) (e .item) m (F .counted), add-one, append-assoc);
+        written = rw (F .written) (written-more a w m (e .item) (F .counted) (omega arith));
       }
 
   pub filled-end : Accepts s0 s1 root → getD nx 0 0 ≡ 0 → Wrote s0 s1 root la od nx pv a b m

@@ -8,12 +8,12 @@ use lib.ListN.{length, getD}
 use Rattle.lists.specs.Lists.{at, Has, find, cut}
 use Rattle.lists.specs.Ranges.{Edge}
 use Rattle.lists.proofs.Tests.{eqb-same, eqb-ne}
-use Rattle.diagrams.specs.Diagram.{Maps, Diagram}
+use Rattle.diagrams.specs.Diagram.{Maps}
 use Rattle.diagrams.specs.Check.{Accepts}
-use Rattle.diagrams.proofs.Checks.{accepts-rooted}
+use Rattle.diagrams.proofs.Checks.{accepts-maps}
 use Rattle.pending.specs.Ring.{Ring}
-use Rattle.labelling.specs.Labelling.{Move, move}
-use Rattle.labelling.proofs.Along.{Inv, View, is-W, is-J, is-B, is-F, view, next, size}
+use Rattle.labelling.specs.Labelling.{Move, move, Along}
+use Rattle.labelling.proofs.Along.{View, is-W, is-J, is-B, is-F, view, next, size}
 use Rattle.labelling.proofs.Labels.{inv-U, inv-T}
 use Rattle.labelling.proofs.Rootings.{accepts-rerooted}
 use Rattle.labelling.proofs.Moves.{move-W, move-J, move-B, move-F}
@@ -21,12 +21,6 @@ use Rattle.labelled.specs.Scratch.{Holds, Underway, opening, Did}
 use Rattle.labelled.proofs.Arrays.{lab-none, lab-zero}
 
 -- ---- accepted diagrams
-
-pub accepts-diagram : (s0 s1 : List ℕ) (r : ℕ) → Accepts s0 s1 r → Diagram (length s0) (at s0) (at s1)
-accepts-diagram s0 s1 r a = accepts-rooted s0 s1 r .0 a .1 .diagram
-
-pub accepts-maps : (s0 s1 : List ℕ) (r : ℕ) → Accepts s0 s1 r → Maps (length s0) (at s0) (at s1)
-accepts-maps s0 s1 r a = accepts-diagram s0 s1 r a .maps
 
 pub accepts-small : (s0 s1 : List ℕ) (r x : ℕ) → Accepts s0 s1 r → Edge (length s0) x → Edge 1024 x
 accepts-small s0 s1 r x a e = let i = a .size in omega arith
@@ -49,7 +43,7 @@ module _ (s0 s1 la od nx pv : List ℕ) (c : ℕ) (o : List ℕ) (k : ℕ) (r : 
   pub partner-small : p < 1025
   partner-small = let i = partner-edge in let j = u .accepted .size in omega arith
 
-  after : Inv (length s0) (at s0) (at s1) (move (at s0) (at s1) o k r .marked) (move (at s0) (at s1) o k r .stack)
+  after : Along (length s0) (at s0) (at s1) (move (at s0) (at s1) o k r .marked) (move (at s0) (at s1) o k r .stack)
   after = next (length s0) (at s0) (at s1) maps o k r (u .along)
 
   -- a partner with a label is pending
@@ -96,7 +90,7 @@ module _ (s0 s1 la od nx pv : List ℕ) (c : ℕ) (o : List ℕ) (k : ℕ) (r : 
       → move (at s0) (at s1) o k r ≡ record { item = 1; marked = at s0 (at s0 p) ∷ at s0 p ∷ p ∷ o; stack = at s0 (at s0 p) ∷ at s0 p ∷ r }
   fork a b e = move-F (at s0) (at s1) o k r p refl a (fresh b) e
 
-  forked : p ≢ k → getD la p 0 ≡ 0 → at s0 p ≢ p → Inv (length s0) (at s0) (at s1) (at s0 (at s0 p) ∷ at s0 p ∷ p ∷ o) (at s0 (at s0 p) ∷ at s0 p ∷ r)
+  forked : p ≢ k → getD la p 0 ≡ 0 → at s0 p ≢ p → Along (length s0) (at s0) (at s1) (at s0 (at s0 p) ∷ at s0 p ∷ p ∷ o) (at s0 (at s0 p) ∷ at s0 p ∷ r)
   forked a b e = rw (fork a b e) at after
 
   pub fork-room : p ≢ k → getD la p 0 ≡ 0 → at s0 p ≢ p → c + 3 ≤ 1024
@@ -116,7 +110,7 @@ module _ (s0 s1 la od nx pv : List ℕ) (c : ℕ) (o : List ℕ) (k : ℕ) (r : 
 -- ---- the first event
 
 module _ (s0 s1 : List ℕ) (r : ℕ) (a : Accepts s0 s1 r) where
-  start : (v : Move) (la od nx pv : List ℕ) (x c : ℕ) → opening s0 r ≡ v → Inv (length s0) (at s0) (at s1) (v .marked) (v .stack)
+  start : (v : Move) (la od nx pv : List ℕ) (x c : ℕ) → opening s0 r ≡ v → Along (length s0) (at s0) (at s1) (v .marked) (v .stack)
       → x ≡ v .item → Holds la od c (v .marked) → Ring nx pv (v .stack) → Did s0 s1 la od nx pv (opening s0 r) (record { item = x; given = c })
   start v la od nx pv x c e i j h q =
       let s = a .size in
@@ -126,7 +120,7 @@ module _ (s0 s1 : List ℕ) (r : ℕ) (a : Accepts s0 s1 r) where
       → Did s0 s1 la od nx pv (opening s0 r) (record { item = 0; given = c })
   did-U la od nx pv c e h q = start (record { item = 0; marked = r ∷ []; stack = r ∷ [] }) la od nx pv 0 c (rw (e, eqb-same r)) (inv-U (length s0) (at s0) (at s1) (accepts-maps s0 s1 r a) r (a .root-in) e) refl h q
 
-  begun : at s0 r ≢ r → Inv (length s0) (at s0) (at s1) (at s0 (at s0 r) ∷ at s0 r ∷ r ∷ []) (at s0 (at s0 r) ∷ at s0 r ∷ r ∷ [])
+  begun : at s0 r ≢ r → Along (length s0) (at s0) (at s1) (at s0 (at s0 r) ∷ at s0 r ∷ r ∷ []) (at s0 (at s0 r) ∷ at s0 r ∷ r ∷ [])
   begun e = inv-T (length s0) (at s0) (at s1) (accepts-maps s0 s1 r a) r (a .root-in) e
 
   pub root-new : at s0 r ≢ r → (¬ Has (at s0 r) (r ∷ [])) × (¬ Has (at s0 (at s0 r)) (at s0 r ∷ r ∷ []))

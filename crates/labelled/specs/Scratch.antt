@@ -18,8 +18,7 @@ use Rattle.lists.specs.Lists.{at, Has, Apart}
 use Rattle.lists.specs.Ranges.{Edge}
 use Rattle.diagrams.specs.Check.{Accepts}
 use Rattle.pending.specs.Ring.{Ring}
-use Rattle.labelling.specs.Labelling.{Move, first, lab, edge, labels, wordOf}
-use Rattle.labelling.proofs.Along.{Inv}
+use Rattle.labelling.specs.Labelling.{Move, Along, first, lab, edge, labels, wordOf}
 use Rattle.labelled.specs.declared.events.Turn.{Turn}
 
 -- an edge without a label has 0; what `order` holds past the labels given does not count
@@ -40,7 +39,7 @@ pub record HoldsSome (la od : List ℕ) (given : ℕ) : Type 0 where
 -- a diagram that is accepted with any root is accepted with root 1
 pub record Underway (s0 s1 la od nx pv : List ℕ) (given : ℕ) (o st : List ℕ) : Type 0 where
   pub accepted : Accepts s0 s1 1
-  pub along : Inv (length s0) (at s0) (at s1) o st
+  pub along : Along (length s0) (at s0) (at s1) o st
   pub holds : Holds la od given o
   pub ring : Ring nx pv st
 

@@ -11,10 +11,9 @@ use Prim.Native.Nat.{ℕ, suc, _≤_}
 use lib.Dec.{eqb, ltb}
 use lib.ListN.{length, getD, take}
 use Rattle.lists.specs.Lists.{pick}
-use Rattle.words.specs.Order.{precedes}
+use Rattle.words.specs.Order.{precedes, same}
 use Rattle.pending.specs.Ring.{Ring}
 use Rattle.labelling.specs.Labelling.{wordOf}
-use Rattle.labelling.specs.Rootings.{same}
 use Rattle.labelled.specs.Scratch.{HoldsSome}
 use Rattle.labelled.specs.declared.tracing.Extent.{Extent}
 

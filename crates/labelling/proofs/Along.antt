@@ -5,23 +5,14 @@ use mathlib.Core.List.{List, [], _∷_}
 use Prim.Native.Nat.{ℕ, zero, suc, _+_, _≤_}
 use native.Mathlib.Omega.{arith}
 use lib.ListN.{length, getD}
-use Rattle.lists.specs.Lists.{at, Has, Apart, find, cut}
-use Rattle.lists.specs.Ranges.{Edge, down}
-use Rattle.lists.proofs.Lists.{has?, find-lt, getD-find, cut-has, cut-not, cut-other, apart-cut, length-cut, pigeons}
-use Rattle.lists.proofs.Ranges.{has-down, length-down}
+use Rattle.lists.specs.Lists.{Has, find, cut}
+use Rattle.lists.specs.Ranges.{Edge}
+use Rattle.lists.proofs.Lists.{has?, find-lt, getD-find, cut-has, cut-not, cut-other, apart-cut, length-cut}
+use Rattle.lists.proofs.Ranges.{edges-few}
 use Rattle.lists.proofs.Tests.{same?}
 use Rattle.diagrams.specs.Diagram.{Maps}
-use Rattle.labelling.specs.Labelling.{move, run}
+use Rattle.labelling.specs.Labelling.{move, Along, run}
 use Rattle.labelling.proofs.Moves.{move-W, move-J, move-B, move-F}
-
--- labelled edges o, pending edges st
-pub record Inv (n : ℕ) (f g : ℕ → ℕ) (o st : List ℕ) : Type 0 where
-  pub edges : (x : ℕ) → Has x o → Edge n x
-  pub apart : Apart o
-  pub pending : (x : ℕ) → Has x st → Has x o
-  pub stacked : Apart st
-  pub closed : (x : ℕ) → Has x o → Has (f x) o
-  pub settled : (x : ℕ) → Has x o → ¬ Has x st → Has (g x) o × (¬ Has (g x) st)
 
 -- the four events, with what tells them apart and the move
 pub data View (f g : ℕ → ℕ) (o : List ℕ) (k : ℕ) (r : List ℕ) : Type 0 where
@@ -32,7 +23,7 @@ pub data View (f g : ℕ → ℕ) (o : List ℕ) (k : ℕ) (r : List ℕ) : Type
       → move f g o k r ≡ record { item = 1; marked = f (f (g k)) ∷ f (g k) ∷ g k ∷ o; stack = f (f (g k)) ∷ f (g k) ∷ r } → View f g o k r
 
 module _ (n : ℕ) (f g : ℕ → ℕ) (D : Maps n f g) where
-  module _ (o : List ℕ) (k : ℕ) (r : List ℕ) (I : Inv n f g o (k ∷ r)) where
+  module _ (o : List ℕ) (k : ℕ) (r : List ℕ) (I : Along n f g o (k ∷ r)) where
     k-o : Has k o
     k-o = I .pending k (inl refl)
 
@@ -62,14 +53,14 @@ module _ (n : ℕ) (f g : ℕ → ℕ) (D : Maps n f g) where
     k-settled : (x : ℕ) → Has x o → x ≢ k → ¬ Has x r → Has (g x) o × (¬ Has (g x) (k ∷ r))
     k-settled x h a m = I .settled x h (⊎-elim a m)
 
-    inv-W : g k ≡ k → Inv n f g o r
+    inv-W : g k ≡ k → Along n f g o r
     inv-W e = record { edges = I .edges; apart = I .apart; pending = λ x h. I .pending x (inr h); stacked = I .stacked .1; closed = I .closed; settled = λ x h m. go x h m (same? x k) }
       where
         go : (x : ℕ) → Has x o → ¬ Has x r → (x ≡ k) ⊎ (x ≢ k) → Has (g x) o × (¬ Has (g x) r)
         go x h m (inl q) = rw (q, e) (k-o, k-r)
         go x h m (inr a) = let s = k-settled x h a m in (s .0, λ i. s .1 (inr i))
 
-    inv-J : g k ≢ k → Has (g k) r → Inv n f g o (cut (find (g k) r) r)
+    inv-J : g k ≢ k → Has (g k) r → Along n f g o (cut (find (g k) r) r)
     inv-J b i = record { edges = I .edges; apart = I .apart; pending = λ x h. I .pending x (inr (cut-has d r x h)); stacked = apart-cut d r (I .stacked .1); closed = I .closed; settled = λ x h m. go x h m (same? x k) (same? x (g k)) }
       where
         d : ℕ
@@ -86,7 +77,7 @@ module _ (n : ℕ) (f g : ℕ → ℕ) (D : Maps n f g) where
         go x h m (inr a) (inl q) = rw (q, back) (k-o, λ j. k-r (cut-has d r k j))
         go x h m (inr a) (inr c) = let s = k-settled x h a (λ j. m (cut-other d r x j (rw there c))) in (s .0, λ j. s .1 (inr (cut-has d r (g x) j)))
 
-    inv-B : g k ≢ k → ¬ Has (g k) o → f (g k) ≡ g k → Inv n f g (g k ∷ o) r
+    inv-B : g k ≢ k → ¬ Has (g k) o → f (g k) ≡ g k → Along n f g (g k ∷ o) r
     inv-B b u e = record { edges = ed; apart = (u, I .apart); pending = λ x h. inr (I .pending x (inr h)); stacked = I .stacked .1; closed = cl; settled = se }
       where
         ed : (x : ℕ) → Has x (g k ∷ o) → Edge n x
@@ -105,7 +96,7 @@ module _ (n : ℕ) (f g : ℕ → ℕ) (D : Maps n f g) where
         se x (inl q) m = rw (q, back) (inr k-o, k-r)
         se x (inr h) m = go x h m (same? x k)
 
-    inv-F : g k ≢ k → ¬ Has (g k) o → f (g k) ≢ g k → Inv n f g (f (f (g k)) ∷ f (g k) ∷ g k ∷ o) (f (f (g k)) ∷ f (g k) ∷ r)
+    inv-F : g k ≢ k → ¬ Has (g k) o → f (g k) ≢ g k → Along n f g (f (f (g k)) ∷ f (g k) ∷ g k ∷ o) (f (f (g k)) ∷ f (g k) ∷ r)
     inv-F b u e = record {
       edges = ed;
       apart = (⊎-elim s-q (⊎-elim s-p s-out), (⊎-elim e q-out, (u, I .apart)));
@@ -169,10 +160,10 @@ module _ (n : ℕ) (f g : ℕ → ℕ) (D : Maps n f g) where
         se x (inr (inr (inl q))) m = rw (q, back) (inr (inr (inr k-o)), old k k-o k-r)
         se x (inr (inr (inr h))) m = go x h (λ i. m (inr (inr i))) (same? x k)
 
-    pub next : Inv n f g (move f g o k r .marked) (move f g o k r .stack)
+    pub next : Along n f g (move f g o k r .marked) (move f g o k r .stack)
     next = go view
       where
-        go : View f g o k r → Inv n f g (move f g o k r .marked) (move f g o k r .stack)
+        go : View f g o k r → Along n f g (move f g o k r .marked) (move f g o k r .stack)
         go (is-W e q) = rw q (inv-W e)
         go (is-J a h q) = rw q (inv-J a h)
         go (is-B a u e q) = rw q (inv-B a u e)
@@ -188,10 +179,10 @@ module _ (n : ℕ) (f g : ℕ → ℕ) (D : Maps n f g) where
         go (is-B a u e q) = rw q (omega arith)
         go (is-F a u e q) = rw q (omega arith)
 
-  pub size : (o st : List ℕ) → Inv n f g o st → length o ≤ n
-  size o st I = let i = pigeons o (down n) (I .apart) (λ x h. has-down n x (I .edges x h)) in rw length-down at i
+  pub size : (o st : List ℕ) → Along n f g o st → length o ≤ n
+  size o st I = edges-few n o (I .apart) (I .edges)
 
-  pub finish : (m : ℕ) (o st : List ℕ) → Inv n f g o st → length st + n ≤ m + length o → Inv n f g (run f g m o st .marked) []
+  pub finish : (m : ℕ) (o st : List ℕ) → Along n f g o st → length st + n ≤ m + length o → Along n f g (run f g m o st .marked) []
   unfolding run
   finish zero o [] I h = I
   finish zero o (k ∷ r) I h = let i = size o (k ∷ r) I in absurd (omega arith)

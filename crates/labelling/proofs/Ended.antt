@@ -8,13 +8,13 @@ use lib.ListN.{length}
 use Rattle.lists.specs.Ranges.{Edge}
 use Rattle.lists.proofs.Tests.{same?}
 use Rattle.diagrams.specs.Diagram.{Maps}
-use Rattle.labelling.specs.Labelling.{move, note, run, label}
-use Rattle.labelling.proofs.Along.{Inv, next, falls, size}
+use Rattle.labelling.specs.Labelling.{move, Along, note, run, label}
+use Rattle.labelling.proofs.Along.{next, falls, size}
 use Rattle.labelling.proofs.Labels.{inv-U, inv-T}
 use Rattle.labelling.proofs.Moves.{label-U, label-T}
 
 module _ (n : ℕ) (f g : ℕ → ℕ) (D : Maps n f g) where
-  run-more : (m m′ : ℕ) (o st : List ℕ) → Inv n f g o st → length st + n ≤ m + length o → m ≤ m′ → run f g m′ o st ≡ run f g m o st
+  run-more : (m m′ : ℕ) (o st : List ℕ) → Along n f g o st → length st + n ≤ m + length o → m ≤ m′ → run f g m′ o st ≡ run f g m o st
   unfolding run
   run-more zero zero o st I h l = refl
   run-more zero (suc m′) o [] I h l = refl

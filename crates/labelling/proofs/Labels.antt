@@ -16,8 +16,8 @@ use Rattle.diagrams.specs.Diagram.{Reached, Maps, Diagram, here, black, white}
 use Rattle.diagrams.specs.Isomorphism.{Isomorphism}
 use Rattle.diagrams.proofs.Diagrams.{reached-from-any}
 use Rattle.diagrams.proofs.Isomorphisms.{diagram-carried}
-use Rattle.labelling.specs.Labelling.{turn, move, run, label, lab, edge, relabel}
-use Rattle.labelling.proofs.Along.{Inv, size, finish}
+use Rattle.labelling.specs.Labelling.{turn, move, Along, run, label, lab, edge, relabel}
+use Rattle.labelling.proofs.Along.{size, finish}
 use Rattle.labelling.proofs.Carried.{label-φ}
 use Rattle.labelling.proofs.Moves.{label-U, label-T}
 
@@ -105,7 +105,7 @@ lab-down (y ∷ o) a = rw (eqb-same y, map-same (lab (y ∷ o)) (lab o) o (λ x 
 
 -- what the labelled edges are in the end
 pub record Done (n : ℕ) (f g : ℕ → ℕ) (r : ℕ) (M : List ℕ) : Type 0 where
-  pub inv : Inv n f g M []
+  pub inv : Along n f g M []
   pub root : Has r M
   pub root-lab : lab M r ≡ 1
 
@@ -117,7 +117,7 @@ module _ (n : ℕ) (f g : ℕ → ℕ) (D : Maps n f g) where
   reach-has M r x h b w (white {x = y} q) = w y (reach-has M r y h b w q)
 
   module _ (r : ℕ) (e : Edge n r) where
-    pub inv-U : f r ≡ r → Inv n f g (r ∷ []) (r ∷ [])
+    pub inv-U : f r ≡ r → Along n f g (r ∷ []) (r ∷ [])
     inv-U q = record { edges = ed; apart = (λ h. h, tt); pending = λ x h. h; stacked = (λ h. h, tt); closed = cl; settled = λ x h m. absurd (m h) }
       where
         ed : (x : ℕ) → Has x (r ∷ []) → Edge n x
@@ -128,7 +128,7 @@ module _ (n : ℕ) (f g : ℕ → ℕ) (D : Maps n f g) where
         cl x (inl i) = rw i (inl q)
         cl x (inr h) = absurd h
 
-    pub inv-T : f r ≢ r → Inv n f g (f (f r) ∷ f r ∷ r ∷ []) (f (f r) ∷ f r ∷ r ∷ [])
+    pub inv-T : f r ≢ r → Along n f g (f (f r) ∷ f r ∷ r ∷ []) (f (f r) ∷ f r ∷ r ∷ [])
     inv-T q = record { edges = ed; apart = apt; pending = λ x h. h; stacked = apt; closed = cl; settled = λ x h m. absurd (m h) }
       where
         round : f (f (f r)) ≡ r
@@ -149,13 +149,13 @@ module _ (n : ℕ) (f g : ℕ → ℕ) (D : Maps n f g) where
         cl x (inr (inr (inl i))) = rw i (inr (inl refl))
         cl x (inr (inr (inr h))) = absurd h
 
-    ended : (o : List ℕ) → Inv n f g o o → length o ≤ 3 → Has r o → lab o r ≡ 1 → Done n f g r (run f g n o o .marked)
+    ended : (o : List ℕ) → Along n f g o o → length o ≤ 3 → Has r o → lab o r ≡ 1 → Done n f g r (run f g n o o .marked)
     ended o I l h q = record { inv = J; root = rw (x .is) (has-append r (x .more) o h); root-lab = rw (x .is) (lab-append r (x .more) o h (rw (x .is) at (J .apart)) ∙ q) }
       where
         x : Extends o (run f g n o o .marked)
         x = run-extends f g n o o
 
-        J : Inv n f g (run f g n o o .marked) []
+        J : Along n f g (run f g n o o .marked) []
         J = finish n f g D n o o I (omega arith)
 
     pub done : Done n f g r (label n f g r .marked)

@@ -11,7 +11,7 @@ use Rattle.lists.proofs.Lists.{length-listed, at-listed}
 use Rattle.diagrams.specs.Check.{Accepts}
 use Rattle.diagrams.specs.Diagram.{Diagram}
 use Rattle.diagrams.specs.Isomorphism.{Isomorphism, RootAlike}
-use Rattle.diagrams.proofs.Checks.{accepts-rooted}
+use Rattle.diagrams.proofs.Checks.{accepts-rooted, accepts-diagram}
 use Rattle.diagrams.proofs.Diagrams.{edge-one, diagram-same}
 use Rattle.diagrams.proofs.Isomorphisms.{root-isomorphic-sym, root-isomorphic-trans}
 use Rattle.words.specs.Word.{Pair, spell, Spells}
@@ -19,7 +19,7 @@ use Rattle.words.proofs.Spelled.{spelled-diagram, spelled-lengths}
 use Rattle.labelling.specs.Labelling.{Labelled, label, lab, relabel, labels, wordOf, characteristic}
 use Rattle.labelling.proofs.Labels.{Done, done, carries, relabelled}
 use Rattle.labelling.proofs.SpelledWord.{spelled-word}
-use Rattle.labelling.proofs.WordsAlike.{label-spells, iso-words, words-iso}
+use Rattle.labelling.proofs.WordsAlike.{some-inj, label-spells, iso-words, words-iso}
 
 -- one isomorphism for another between maps that agree on the edges
 isomorphism-same : {n : ℕ} {f g f′ g′ f″ g″ φ : ℕ → ℕ} → Isomorphism n f g f′ g′ φ → ((x : ℕ) → Edge n x → f′ x ≡ f″ x) → ((x : ℕ) → Edge n x → g′ x ≡ g″ x) → Isomorphism n f g f″ g″ φ
@@ -45,7 +45,7 @@ module _ (s0 s1 : List ℕ) (root : ℕ) (A : Accepts s0 s1 root) where
   t1 = listed (relabel M (at s1)) n
 
   diagram : Diagram n (at s0) (at s1)
-  diagram = accepts-rooted s0 s1 root .0 A .1 .diagram
+  diagram = accepts-diagram s0 s1 root A
 
   marked : Done n (at s0) (at s1) root M
   marked = done n (at s0) (at s1) (diagram .maps) root (A .root-in)
@@ -97,9 +97,6 @@ module _ (s0 s1 : List ℕ) (root : ℕ) (A : Accepts s0 s1 root) where
   pub word-of-size : Spells (length s0) (wordOf s0 s1 root)
   word-of-size = record { pair = characteristic s0 s1 root; spelt = word-spelled; sized = characteristic-size }
 
-some-same : (A B : Pair) → some A ≡ some B → A ≡ B
-some-same A B e = cc
-
 module _ (s0 s1 : List ℕ) (r : ℕ) (A : Accepts s0 s1 r) (t0 t1 : List ℕ) (q : ℕ) (B : Accepts t0 t1 q) where
   pub alike-words : RootAlike s0 s1 r t0 t1 q → wordOf s0 s1 r ≡ wordOf t0 t1 q
   unfolding wordOf
@@ -111,7 +108,7 @@ module _ (s0 s1 : List ℕ) (r : ℕ) (A : Accepts s0 s1 r) (t0 t1 : List ℕ) (
 
   -- equal words and equal characteristic labellings are the same thing
   pub words-results : wordOf s0 s1 r ≡ wordOf t0 t1 q → characteristic s0 s1 r ≡ characteristic t0 t1 q
-  words-results w = some-same _ _ (sym (word-spelled s0 s1 r A) ∙ ap spell w ∙ word-spelled t0 t1 q B)
+  words-results w = some-inj _ _ (sym (word-spelled s0 s1 r A) ∙ ap spell w ∙ word-spelled t0 t1 q B)
 
   pub results-alike : characteristic s0 s1 r ≡ characteristic t0 t1 q → RootAlike s0 s1 r t0 t1 q
   results-alike e =
@@ -137,4 +134,4 @@ module _ (w : List ℕ) (D : Pair) (e : spell w ≡ some D) where
   unfolding characteristic labels
   spelled-characteristic =
       let G = spelled-diagram w D e in
-      some-same _ _ (sym (label-spells m (at (D .black)) (at (D .white)) G 1 (edge-one (G .maps))) ∙ ap spell (ap (λ (q : Labelled). q .word) (spelled-word w D e)) ∙ e)
+      some-inj _ _ (sym (label-spells m (at (D .black)) (at (D .white)) G 1 (edge-one (G .maps))) ∙ ap spell (ap (λ (q : Labelled). q .word) (spelled-word w D e)) ∙ e)

@@ -15,8 +15,8 @@ use Rattle.lists.proofs.Tests.{same?, lt-true}
 use Rattle.diagrams.specs.Diagram.{Diagram}
 use Rattle.words.specs.Word.{Pair, spells, spell}
 use Rattle.words.proofs.Growing.{State, state-W, state-F, state-B, state-J, state-U, state-T, old-white, new-white, k-white, J-other, J-k, J-p}
-use Rattle.labelling.specs.Labelling.{move, run, label}
-use Rattle.labelling.proofs.Along.{Inv, View, is-W, is-J, is-B, is-F, view, next, size}
+use Rattle.labelling.specs.Labelling.{move, Along, run, label}
+use Rattle.labelling.proofs.Along.{View, is-W, is-J, is-B, is-F, view, next, size}
 use Rattle.labelling.proofs.Labels.{run-extends, inv-U, inv-T}
 use Rattle.labelling.proofs.Moves.{label-U, label-T}
 
@@ -45,7 +45,7 @@ module _ (n : ℕ) (f g : ℕ → ℕ) (D : Diagram n f g) where
   L = record { black = listed f n; white = listed g n }
 
   abbrev Goal : ℕ → List ℕ → List ℕ → List ℕ → Type 0
-  Goal m st s0 s1 = State st s0 s1 → Agree st s0 s1 → Inv n f g (down (length s0)) st → length st + n ≤ m + length s0
+  Goal m st s0 s1 = State st s0 s1 → Agree st s0 s1 → Along n f g (down (length s0)) st → length st + n ≤ m + length s0
       → run f g m (down (length s0)) st .marked ≡ down n → spells (run f g m (down (length s0)) st .word) st s0 s1 ≡ some L
 
   at-end : (s0 s1 : List ℕ) → State [] s0 s1 → Agree [] s0 s1 → down (length s0) ≡ down n → spells [] [] s0 s1 ≡ some L
@@ -55,7 +55,7 @@ module _ (n : ℕ) (f g : ℕ → ℕ) (D : Diagram n f g) where
       c : length s0 ≡ n
       c = sym (length-down (length s0)) ∙ ap length e ∙ length-down n
 
-  module _ (m : ℕ) (ih : (st s0 s1 : List ℕ) → Goal m st s0 s1) (k : ℕ) (r s0 s1 : List ℕ) (S : State (k ∷ r) s0 s1) (A : Agree (k ∷ r) s0 s1) (I : Inv n f g (down (length s0)) (k ∷ r)) (h : length (k ∷ r) + n ≤ suc m + length s0) (e : run f g (suc m) (down (length s0)) (k ∷ r) .marked ≡ down n) where
+  module _ (m : ℕ) (ih : (st s0 s1 : List ℕ) → Goal m st s0 s1) (k : ℕ) (r s0 s1 : List ℕ) (S : State (k ∷ r) s0 s1) (A : Agree (k ∷ r) s0 s1) (I : Along n f g (down (length s0)) (k ∷ r)) (h : length (k ∷ r) + n ≤ suc m + length s0) (e : run f g (suc m) (down (length s0)) (k ∷ r) .marked ≡ down n) where
     abbrev o : List ℕ
     o = down (length s0)
 

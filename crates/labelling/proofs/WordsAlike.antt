@@ -30,7 +30,7 @@ label-spells n f g D r e = rw (ap (λ (q : Labelled). q .word) c) at (own-word-s
     c : label n (relabel M f) (relabel M g) 1 ≡ record { marked = down n; word = label n f g r .word }
     c = canonical n f g D r e
 
-some-inj : (A B : Pair) → some A ≡ some B → A ≡ B
+pub some-inj : (A B : Pair) → some A ≡ some B → A ≡ B
 some-inj A B e = cc
 
 module _ (n : ℕ) (f g : ℕ → ℕ) (D : Diagram n f g) (r : ℕ) (e : Edge n r) (n′ : ℕ) (f′ g′ : ℕ → ℕ) (D′ : Diagram n′ f′ g′) (r′ : ℕ) (e′ : Edge n′ r′) where

@@ -3,6 +3,7 @@
 -- place counted from the end; the stack holds the pending edges, its top first.
 --
 --   move f g marked k r     the event of the popped edge k, r being the rest of the stack: its item, and what is marked and pending after it
+--   Along n f g marked st   what holds at each point along the labelling of a diagram of size n
 --   run f g m marked st     the events from a stack on, at most m of them: what is marked in the end, and the items
 --   label n f g r           the whole labelling of a diagram of size n from the root r: its marked edges and its word
 --   lab marked x            the label of edge x; 0 where it has none
@@ -14,7 +15,8 @@ use mathlib.Core.List.{List, [], _∷_}
 use Prim.Native.Nat.{ℕ, zero, suc}
 use lib.Dec.{eqb}
 use lib.ListN.{length}
-use Rattle.lists.specs.Lists.{pick, at, listed, has, find, cut}
+use Rattle.lists.specs.Lists.{pick, at, listed, Has, Apart, has, find, cut}
+use Rattle.lists.specs.Ranges.{Edge}
 use Rattle.words.specs.Word.{Pair}
 
 pub record Move : Type 0 where
@@ -35,6 +37,16 @@ turn false false false p q s d o r = record { item = 1; marked = s ∷ q ∷ p �
 
 unfoldable pub move : (f g : ℕ → ℕ) → List ℕ → ℕ → List ℕ → Move
 move f g o k r = let p = g k in turn (eqb p k) (has p o) (eqb (f p) p) p (f p) (f (f p)) (find p r) o r
+
+-- the marked edges, no two the same, are edges of the diagram, whole black vertices at a time; the pending ones, no two the same, are marked;
+-- and the partner of an edge that is marked and no longer pending is such an edge too
+pub record Along (n : ℕ) (f g : ℕ → ℕ) (marked st : List ℕ) : Type 0 where
+  pub edges : (x : ℕ) → Has x marked → Edge n x
+  pub apart : Apart marked
+  pub pending : (x : ℕ) → Has x st → Has x marked
+  pub stacked : Apart st
+  pub closed : (x : ℕ) → Has x marked → Has (f x) marked
+  pub settled : (x : ℕ) → Has x marked → ¬ Has x st → Has (g x) marked × (¬ Has (g x) st)
 
 pub record Labelled : Type 0 where
   pub marked : List ℕ

@@ -4,14 +4,11 @@
 --   leastWord s0 s1       the least of the words of all rootings
 --   Kept s0 s1 root       the word is the least among those of the rootings: none comes before it
 --   symmetries ..         how many rootings have the same word
-use mathlib.Core.Bool.{Bool, true, false}
-use mathlib.Core.List.{List, [], _∷_}
+use mathlib.Core.List.{List}
 use Prim.Native.Nat.{ℕ, zero, suc, pred}
-use lib.Dec.{eqb}
 use lib.ListN.{length}
-use Rattle.lists.specs.Lists.{pick}
 use Rattle.lists.specs.Ranges.{Edge, tally}
-use Rattle.words.specs.Order.{Before, lesser}
+use Rattle.words.specs.Order.{Before, lesser, same}
 use Rattle.labelling.specs.Labelling.{wordOf}
 
 unfoldable pub leastOf : List ℕ → List ℕ → ℕ → List ℕ
@@ -23,13 +20,6 @@ leastWord s0 s1 = leastOf s0 s1 (pred (length s0))
 
 unfoldable pub Kept : List ℕ → List ℕ → ℕ → Type 0
 Kept s0 s1 root = (x : ℕ) → Edge (length s0) x → ¬ Before (wordOf s0 s1 x) (wordOf s0 s1 root)
-
--- the two words are the same
-abbrev pub same : List ℕ → List ℕ → Bool
-same [] [] = true
-same [] (y ∷ v) = false
-same (x ∷ u) [] = false
-same (x ∷ u) (y ∷ v) = pick (eqb x y) (same u v) false
 
 unfoldable pub symmetries : List ℕ → List ℕ → ℕ → ℕ
 symmetries s0 s1 root = tally (length s0) (λ x. same (wordOf s0 s1 x) (wordOf s0 s1 root))

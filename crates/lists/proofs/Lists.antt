@@ -1,14 +1,14 @@
 -- Laws of lists: membership, no repeats, places, a map's entries, a statement for each element.
 use mathlib.Core.Path.{_≡_, refl, sym, ap, _∙_, subst}
-use mathlib.Core.Logic.{_≢_, _⊎_, inl, inr, ⊎-elim}
-use mathlib.Core.Bool.{Bool, true, false, true≢false}
-use mathlib.Core.List.{List, [], _∷_, _++_, map, List·Memᴰ, List·Memᴰ·not-nil, List·Memᴰ·cases-cons}
-use Prim.Native.Nat.{ℕ, zero, suc, _+_, _≤_, _<_}
+use mathlib.Core.Logic.{_≢_, _⊎_, inl, inr, ⊎-elim, _↔_}
+use mathlib.Core.Bool.{Bool, true, false}
+use mathlib.Core.List.{List, [], _∷_, _++_, List·Memᴰ, List·Memᴰ·not-nil, List·Memᴰ·cases-cons}
+use Prim.Native.Nat.{ℕ, zero, suc, _+_, _-_, _≤_, _<_}
 use native.Mathlib.Nat.{not-suc-le-zero, le-of-suc-le-suc}
 use native.Mathlib.Omega.{arith}
 use lib.Dec.{eqb}
-use lib.ListN.{length, getD, set, length-set, length-append, List·getD-append}
-use lib.Seq.{getD-set-same, getD-set-other, getD-append-add}
+use lib.ListN.{length, getD, set, take, drop, replicate, length-set, length-append, List·getD-append}
+use lib.Seq.{getD-set-same, getD-set-other, getD-append-add, take-all}
 use Rattle.lists.specs.Lists.{pick, at, put, listed, Has, Apart, All, has, find, cut}
 use Rattle.lists.specs.Ranges.{Edge}
 use Rattle.lists.proofs.Tests.{eqb-same, eqb-ne, same?}
@@ -36,6 +36,25 @@ has? x (y ∷ l) = go (same? x y) (has? x l)
     go (inl e) r = inl (inl e)
     go (inr n) (inl h) = inl (inr h)
     go (inr n) (inr m) = inr (⊎-elim n m)
+
+-- ---- one more at the end
+
+pub has-snoc : (x : ℕ) (l : List ℕ) (y : ℕ) → Has x (l ++ (y ∷ [])) → Has x l ⊎ (x ≡ y)
+has-snoc x [] y (inl e) = inr e
+has-snoc x [] y (inr h) = absurd h
+has-snoc x (z ∷ l) y (inl e) = inl (inl e)
+has-snoc x (z ∷ l) y (inr h) = ⊎-elim (λ i. inl (inr i)) inr (has-snoc x l y h)
+
+pub snoc-has : (x : ℕ) (l : List ℕ) (y : ℕ) → Has x l ⊎ (x ≡ y) → Has x (l ++ (y ∷ []))
+snoc-has x [] y (inl h) = absurd h
+snoc-has x [] y (inr e) = inl e
+snoc-has x (z ∷ l) y (inl (inl e)) = inl e
+snoc-has x (z ∷ l) y (inl (inr h)) = inr (snoc-has x l y (inl h))
+snoc-has x (z ∷ l) y (inr e) = inr (snoc-has x l y (inr e))
+
+pub apart-snoc : (l : List ℕ) (y : ℕ) → Apart l → ¬ Has y l → Apart (l ++ (y ∷ []))
+apart-snoc [] y a n = (λ h. h, tt)
+apart-snoc (z ∷ l) y a n = (λ h. ⊎-elim (a .0) (λ e. n (inl (sym e))) (has-snoc z l y h), apart-snoc l y (a .1) (λ h. n (inr h)))
 
 -- ---- places
 
@@ -128,6 +147,34 @@ at-right s t (suc j) i e = rw inj (getD-append-add s t i 0)
     inj : j ≡ length s + i
     inj = omega arith
 
+-- entry x stands at the place x - 1, where the code reads and writes it
+pub at-place : (s : List ℕ) (x : ℕ) → 1 ≤ x → getD s (x - 1) 0 ≡ at s x
+at-place s zero h = absurd (omega arith)
+at-place s (suc i) h = let e : suc i - 1 ≡ i = omega arith in rw e
+
+pub put-place : (s : List ℕ) (x v : ℕ) → 1 ≤ x → set s (x - 1) v ≡ put s x v
+put-place s zero v h = absurd (omega arith)
+put-place s (suc i) v h = let e : suc i - 1 ≡ i = omega arith in rw e
+
+-- what holds at each place holds of each entry
+pub places-edges : (P : ℕ → Type 0) (s : List ℕ) → ((k : ℕ) → k < length s → P (getD s k 0)) ↔ ((x : ℕ) → Edge (length s) x → P (at s x))
+places-edges P s = (to, λ a k l. a (suc k) (omega arith))
+  where
+    to : ((k : ℕ) → k < length s → P (getD s k 0)) → (x : ℕ) → Edge (length s) x → P (at s x)
+    to a zero e = absurd (omega arith)
+    to a (suc i) e = a i (e .1)
+
+pub at-zeros : (n x : ℕ) → at (replicate n 0) x ≡ 0
+at-zeros n zero = refl
+at-zeros zero (suc i) = refl
+at-zeros (suc n) (suc zero) = refl
+at-zeros (suc n) (suc (suc i)) = at-zeros n (suc i)
+
+pub drop-zeros : (m n : ℕ) → n ≤ m → drop {A = ℕ} n (replicate m 0) ≡ replicate (m - n) 0
+drop-zeros m zero h = let e : m - 0 ≡ m = omega arith in rw e
+drop-zeros zero (suc n) h = absurd (omega arith)
+drop-zeros (suc m) (suc n) h = let e : suc m - suc n ≡ m - n = omega arith in rw e (drop-zeros m n (omega arith))
+
 pub length-listed : (f : ℕ → ℕ) (n : ℕ) → length (listed f n) ≡ n
 length-listed f zero = refl
 length-listed f (suc n) = simp (length-append, length-listed f n) (omega arith)
@@ -139,6 +186,10 @@ at-listed f (suc n) x e = go (same? x (suc n)) (at-listed f n x)
     go : (x ≡ suc n) ⊎ (x ≢ suc n) → (Edge n x → at (listed f n) x ≡ f x) → at (listed f (suc n)) x ≡ f x
     go (inl q) k = rw q (at-right (listed f n) (f (suc n) ∷ []) (suc n) 0 (rw length-listed (omega arith)))
     go (inr q) k = at-left (listed f n) (f (suc n) ∷ []) x (rw length-listed (omega arith)) ∙ k (omega arith)
+
+-- the elements after the first, as the code hands them on: a part of the list
+pub rest-is : (x : ℕ) (s : List ℕ) → take (length (x ∷ s) - 1) (drop 1 (x ∷ s)) ≡ s
+rest-is x s = take-all (length (x ∷ s) - 1) s (omega arith)
 
 pub length-1 : (s : List ℕ) (a : ℕ) → length (s ++ (a ∷ [])) ≡ suc (length s)
 length-1 s a = simp length-append (omega arith)
@@ -156,6 +207,12 @@ module _ {A : Type 0} where
   pub all-map : (P Q : A → Type 0) → ((x : A) → P x → Q x) → (s : List A) → All P s → All Q s
   all-map P Q k [] a = tt
   all-map P Q k (x ∷ s) a = (k x (a .0), all-map P Q k s (a .1))
+
+  -- z is what getD gives past the end
+  pub all-at : (P : A → Type 0) (s : List A) (i : ℕ) (z : A) → All P s → i < length s → P (getD s i z)
+  all-at P [] i z a h = absurd (not-suc-le-zero h)
+  all-at P (x ∷ s) zero z a h = a .0
+  all-at P (x ∷ s) (suc i) z a h = all-at P s i z (a .1) (le-of-suc-le-suc h)
 
   pub all-mem : (P : A → Type 0) (s : List A) {x : A} → All P s → List·Memᴰ x s → P x
   all-mem P [] a m = absurd (List·Memᴰ·not-nil m)

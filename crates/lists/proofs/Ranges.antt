@@ -1,13 +1,13 @@
 -- Laws of the numbers 1 to n.
-use mathlib.Core.Path.{_≡_, refl, sym, ap, _∙_}
-use mathlib.Core.Logic.{_≢_, _⊎_, inl, inr, ⊎-elim}
+use mathlib.Core.Path.{_≡_, refl, sym, ap}
+use mathlib.Core.Logic.{_≢_, _⊎_, inl, inr}
 use mathlib.Core.Bool.{Bool, true, false}
 use mathlib.Core.List.{List, [], _∷_}
-use Prim.Native.Nat.{ℕ, zero, suc, _+_, _≤_, _<_}
+use Prim.Native.Nat.{ℕ, zero, suc, _+_, _≤_}
 use native.Mathlib.Omega.{arith}
 use lib.ListN.{length}
 use Rattle.lists.specs.Lists.{pick, Has, Apart}
-use Rattle.lists.specs.Ranges.{Edge, every, down}
+use Rattle.lists.specs.Ranges.{Edge, every, tally, down}
 use Rattle.lists.proofs.Tests.{same?, both-true}
 use Rattle.lists.proofs.Lists.{has?, pigeons}
 
@@ -34,6 +34,10 @@ pub length-down : (n : ℕ) → length (down n) ≡ n
 length-down zero = refl
 length-down (suc n) = ap suc (length-down n)
 
+-- a list of edges without repeats has at most n
+pub edges-few : (n : ℕ) (l : List ℕ) → Apart l → ((x : ℕ) → Has x l → Edge n x) → length l ≤ n
+edges-few n l a e = rw length-down at (pigeons l (down n) a (λ x h. has-down n x (e x h)))
+
 -- ---- a test at each of 1..n
 
 pub every-true : (n : ℕ) (t : ℕ → Bool) → every n t ≡ true → (x : ℕ) → Edge n x → t x ≡ true
@@ -47,6 +51,14 @@ every-true (suc n) t e x i = go (same? x (suc n)) (every-true n t (both-true (t 
 pub true-every : (n : ℕ) (t : ℕ → Bool) → ((x : ℕ) → Edge n x → t x ≡ true) → every n t ≡ true
 true-every zero t k = refl
 true-every (suc n) t k = rw (k (suc n) (omega arith)) (true-every n t (λ x i. k x (omega arith)))
+
+pub tally-most : (n : ℕ) (t : ℕ → Bool) → tally n t ≤ n
+tally-most zero t = omega arith
+tally-most (suc n) t = go (t (suc n)) (tally-most n t)
+  where
+    go : (b : Bool) → tally n t ≤ n → pick b 1 0 + tally n t ≤ suc n
+    go true h = omega arith
+    go false h = omega arith
 
 -- ---- a map of 1..n into itself that is one-to-one is onto
 

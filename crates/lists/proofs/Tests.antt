@@ -1,8 +1,8 @@
 -- Tests on numbers as equations with `true` and `false`, and the same decided.
-use mathlib.Core.Path.{_≡_, refl, sym, ap, _∙_, subst}
+use mathlib.Core.Path.{_≡_, refl, sym}
 use mathlib.Core.Logic.{_≢_, _⊎_, inl, inr}
 use mathlib.Core.Bool.{Bool, true, false, true≢false}
-use Prim.Native.Nat.{ℕ, zero, suc, _+_, _≤_, _<_}
+use Prim.Native.Nat.{ℕ, _≤_, _<_}
 use native.Mathlib.Omega.{arith}
 use lib.Dec.{T, eqb, leb, ltb, eqb→eq, eqb-refl, leb→le, le→leb, ltb→lt, lt→ltb, nltb→le}
 use Rattle.lists.specs.Lists.{pick}
@@ -20,12 +20,13 @@ eqb-same x = T→true (eqb x x) (eqb-refl x)
 pub eqb-true : (x y : ℕ) → eqb x y ≡ true → x ≡ y
 eqb-true x y e = eqb→eq x y (true→T (eqb x y) e)
 
+-- a test that does not hold fails
+pub not-true : (b : Bool) → ¬ (b ≡ true) → b ≡ false
+not-true true n = absurd (n refl)
+not-true false n = refl
+
 pub eqb-ne : (x y : ℕ) → x ≢ y → eqb x y ≡ false
-eqb-ne x y n = go (eqb x y) refl
-  where
-    go : (b : Bool) → eqb x y ≡ b → eqb x y ≡ false
-    go true e = absurd (n (eqb-true x y e))
-    go false e = e
+eqb-ne x y n = not-true (eqb x y) (λ e. n (eqb-true x y e))
 
 pub eqb-false : (x y : ℕ) → eqb x y ≡ false → x ≢ y
 eqb-false x y e p = true≢false (cc (eqb-same y))
@@ -54,11 +55,7 @@ pub lt-true : (d n : ℕ) → d < n → ltb d n ≡ true
 lt-true d n h = T→true (ltb d n) (lt→ltb d n h)
 
 pub lt-false : (d n : ℕ) → n ≤ d → ltb d n ≡ false
-lt-false d n h = go (ltb d n) refl
-  where
-    go : (b : Bool) → ltb d n ≡ b → ltb d n ≡ false
-    go true e = let i = ltb→lt d n (true→T (ltb d n) e) in absurd (omega arith)
-    go false e = e
+lt-false d n h = not-true (ltb d n) (λ e. let i = ltb→lt d n (true→T (ltb d n) e) in omega arith)
 
 pub lt? : (d n : ℕ) → (d < n) ⊎ (n ≤ d)
 lt? d n = go (ltb d n) refl
@@ -77,11 +74,7 @@ pub leb-true : (a b : ℕ) → leb a b ≡ true → a ≤ b
 leb-true a b e = leb→le a b (true→T (leb a b) e)
 
 pub le-false : (a b : ℕ) → b < a → leb a b ≡ false
-le-false a b h = go (leb a b) refl
-  where
-    go : (t : Bool) → leb a b ≡ t → leb a b ≡ false
-    go true e = let i = leb-true a b e in absurd (omega arith)
-    go false e = e
+le-false a b h = not-true (leb a b) (λ e. let i = leb-true a b e in omega arith)
 
 pub eqb-eq : (x y : ℕ) → x ≡ y → eqb x y ≡ true
 eqb-eq x y e = rw e (eqb-same y)

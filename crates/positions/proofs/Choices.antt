@@ -13,8 +13,9 @@ use Rattle.writing.proofs.Lists.{over-length, over-one}
 use Rattle.counting.specs.Listing.{ways}
 use Rattle.counting.specs.Ranking.{forks, buds, unranked}
 use Rattle.counting.proofs.Tails.{pre-le}
+use Rattle.counting.proofs.Ranking.{ways-parts}
 use Rattle.positions.specs.Steps.{Chosen, Unranking}
-use Rattle.positions.proofs.EventBlocks.{ways-parts, forks-some, buds-some, block-some, jump-divides}
+use Rattle.positions.proofs.EventBlocks.{forks-some, buds-some, block-some, jump-divides}
 
 nothing : (m f i : ℕ) → unranked m 0 f i ≡ []
 unfolding unranked

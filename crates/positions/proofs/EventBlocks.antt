@@ -6,14 +6,8 @@ use Prim.Native.Nat.{ℕ, zero, suc, _+_, _*_, _-_, _/_, _%_, _≤_, _<_}
 use native.Mathlib.Nat.{not-suc-le-zero, zero-mul, mul-zero, suc-mul, div-eq-of-lt, div-lt-iff-lt-mul, div-eq-sub-div, mod-eq-of-lt, mod-eq-sub-mod}
 use native.Mathlib.Omega.{arith}
 use Rattle.lists.proofs.Tests.{lt-true, lt-false, lt?}
-use Rattle.words.specs.Shape.{pre}
 use Rattle.counting.specs.Listing.{ways}
 use Rattle.counting.specs.Ranking.{jump, forks, buds}
-use Rattle.counting.proofs.Tails.{ways-suc}
-
-pub ways-parts : (h f : ℕ) → ways (suc h) f ≡ ways h f + (forks h f + (buds h f + h * ways (pre h) f))
-unfolding forks buds
-ways-parts h f = ways-suc h f
 
 pub forks-few : (h f : ℕ) → f < 3 → forks h f ≡ 0
 unfolding forks

@@ -3,12 +3,12 @@ use mathlib.Core.Path.{_≡_, refl, sym, ap, _∙_}
 use mathlib.Core.Logic.{_⊎_, inl, inr}
 use mathlib.Core.List.{List, [], _∷_}
 use Prim.Native.Nat.{ℕ, zero, suc, _+_, _-_, _^_, _≤_, _<_}
-use native.Mathlib.Nat.{not-suc-le-zero}
 use native.Mathlib.Omega.{arith}
 use lib.ListN.{length, getD, set, take, drop, List·getD-append}
-use lib.Seq.{getD-append-add, take-length}
+use lib.Seq.{getD-append-add}
 use Rattle.lists.specs.Ranges.{Edge}
 use Rattle.lists.proofs.Tests.{lt?}
+use Rattle.lists.proofs.Lists.{rest-is}
 use Rattle.words.specs.Shape.{Fits, Word}
 use Rattle.words.specs.Word.{Spells}
 use Rattle.words.proofs.Shape.{spells-word}
@@ -16,21 +16,13 @@ use Rattle.writing.proofs.Lists.{over-one}
 use Rattle.counting.specs.Listing.{each, tails, listing, ways, count}
 use Rattle.counting.specs.Position.{wordAt, position}
 use Rattle.counting.specs.Ranking.{rank}
-use Rattle.counting.proofs.Tails.{length-each, length-tails, ways-by}
+use Rattle.counting.proofs.Tails.{length-each, tails-ways}
 use Rattle.counting.proofs.Listing.{counted}
-use Rattle.counting.proofs.Ranking.{at-place, placed}
+use Rattle.counting.proofs.Ranking.{getD-each, unranked-at, placed}
 use Rattle.counting.proofs.Positions.{at-once, position-in, at-position}
 use Rattle.table.proofs.Table.{ways-small}
 use Rattle.positions.specs.Steps.{Unranking}
 use Rattle.positions.proofs.Passing.{rank-small}
-
-each-at : (x i : ℕ) (ws : List (List ℕ)) → i < length ws → getD (each x ws) i [] ≡ x ∷ getD ws i []
-each-at x i [] h = absurd (not-suc-le-zero h)
-each-at x zero (w ∷ ws) h = refl
-each-at x (suc i) (w ∷ ws) h = each-at x i ws (omega arith)
-
-tails-ways : (m h f : ℕ) → h + f ≤ m → length (tails m h f) ≡ ways h f
-tails-ways m h f l = length-tails m h f ∙ ways-by m h f l
 
 -- ---- the count
 
@@ -57,7 +49,7 @@ at-U : (f i : ℕ) → i < ways 1 f → wordAt (suc f) (suc i) ≡ 0 ∷ getD (t
 unfolding wordAt listing
 at-U f i l =
     let z = tails-ways (suc f) 1 f (omega arith) in
-    List·getD-append (each 0 (tails (suc f) 1 f)) _ [] i (rw (length-each, z) l) ∙ each-at 0 i (tails (suc f) 1 f) (rw z l)
+    List·getD-append (each 0 (tails (suc f) 1 f)) _ [] i (rw (length-each, z) l) ∙ getD-each 0 i (tails (suc f) 1 f) (rw z l)
 
 at-T : (f i : ℕ) → i < ways 3 f → wordAt (suc (suc (suc f))) (suc (ways 1 (suc (suc f)) + i)) ≡ 1 ∷ getD (tails (suc (suc (suc f))) 3 f) i []
 unfolding wordAt listing
@@ -65,7 +57,7 @@ at-T f i l =
     let y = length-each 0 (tails (suc (suc (suc f))) 1 (suc (suc f))) ∙ tails-ways (suc (suc (suc f))) 1 (suc (suc f)) (omega arith) in
     let z = tails-ways (suc (suc (suc f))) 3 f (omega arith) in
     rw (← y) (getD-append-add (each 0 (tails (suc (suc (suc f))) 1 (suc (suc f)))) (each 1 (tails (suc (suc (suc f))) 3 f)) i [])
-    ∙ each-at 1 i (tails (suc (suc (suc f))) 3 f) (rw z l)
+    ∙ getD-each 1 i (tails (suc (suc (suc f))) 3 f) (rw z l)
 
 -- the first item written: U where the place is among the words that begin with it
 pub begun-U : (n p : ℕ) (a : List ℕ) → Edge 50 n → 1 ≤ p → suc n ≤ length a → p - 1 < ways 1 (n - 1) → Unranking (wordAt n p) a (set a 0 0) 1 1 (n - 1) (p - 1)
@@ -78,7 +70,7 @@ begun-U (suc f) (suc i) a e q r l =
     rw (x, y) record {
       done = 0 ∷ [];
       left = suc f;
-      whole = at-U f i b ∙ ap (λ (w : List ℕ). 0 ∷ w) (at-place (suc f) 1 f i (omega arith) b);
+      whole = at-U f i b ∙ ap (λ (w : List ℕ). 0 ∷ w) (unranked-at (suc f) 1 f i (omega arith) b);
       at-is = refl;
       list-is = over-one [] a 0 0 refl (omega arith);
       enough = omega arith;
@@ -111,7 +103,7 @@ begun-T n p a e q r l = let s = T-some n p e q l in go n p e (q .0) r l (s .0) (
         rw (x, y) record {
           done = 1 ∷ [];
           left = suc (suc (suc f));
-          whole = ap (wordAt (suc (suc (suc f)))) z ∙ at-T f (p - 1 - ways 1 (suc (suc f))) b′ ∙ ap (λ (w : List ℕ). 1 ∷ w) (at-place (suc (suc (suc f))) 3 f (p - 1 - ways 1 (suc (suc f))) (omega arith) b′);
+          whole = ap (wordAt (suc (suc (suc f)))) z ∙ at-T f (p - 1 - ways 1 (suc (suc f))) b′ ∙ ap (λ (w : List ℕ). 1 ∷ w) (unranked-at (suc (suc (suc f))) 3 f (p - 1 - ways 1 (suc (suc f))) (omega arith) b′);
           at-is = refl;
           list-is = over-one [] a 0 1 refl (omega arith);
           enough = omega arith;
@@ -156,9 +148,6 @@ position-T f w a =
 
 abbrev rest : List ℕ → List ℕ
 rest w = take (length w - 1) (drop 1 w)
-
-rest-is : (x : ℕ) (w : List ℕ) → rest (x ∷ w) ≡ w
-rest-is x w = let e : suc (length w) - 1 ≡ length w = omega arith in rw (e, take-length w)
 
 word-U : (n : ℕ) (w : List ℕ) → Word n w → getD w 0 0 ≡ 0 → (1 ≤ n) × Fits 1 (n - 1) (rest w) × (position n w ≡ rank 1 (n - 1) (rest w) + 1)
 word-U n [] a e = absurd a

@@ -8,11 +8,11 @@ use native.Mathlib.Numerals.{add-one}
 use native.Mathlib.Omega.{arith}
 use lib.Dec.{leb}
 use lib.ListN.{length, getD, set, take, drop, length-set, length-drop, drop-of-length-le}
-use lib.Seq.{drop-cons, length-take-le, take-all, take-suc-set}
+use lib.Seq.{drop-cons, length-take-le, take-suc-set}
 use Rattle.lists.specs.Lists.{Has, All, pick, find, cut, put}
 use Rattle.lists.specs.Ranges.{Edge}
 use Rattle.lists.proofs.Tests.{le-true, le-false, lt-true, lt-false}
-use Rattle.lists.proofs.Lists.{has-getD, find-getD, all-cut, all-map, all-has, length-cut, length-put}
+use Rattle.lists.proofs.Lists.{has-getD, find-getD, all-cut, all-map, all-has, length-cut, length-put, rest-is}
 use Rattle.pending.specs.Ring.{Ring}
 use Rattle.pending.proofs.Laws.{ring-labels}
 use Rattle.reading.specs.declared.Step.the-variants.{Next}
@@ -227,10 +227,6 @@ module _ (nx pv x0 x1 : List ℕ) (e : length x0 ≡ 1024) (f : length x1 ≡ 10
     blacks = sym (take-3 x0 0 2 3 1 (omega arith));
     whites = sym (take-3 x1 0 1 2 3 (omega arith));
   }
-
--- the items after the first, as the code hands them on: a part of the word
-rest-is : (x : ℕ) (w : List ℕ) → take (length (x ∷ w) - 1) (drop 1 (x ∷ w)) ≡ w
-rest-is x w = take-all (length (x ∷ w) - 1) w (omega arith)
 
 pub opening-alone : (w : List ℕ) → 0 < length w → getD w 0 0 ≡ 0 → opening w ≡ onward (take (length w - 1) (drop 1 w)) alone
 opening-alone [] h e = absurd (omega arith)

@@ -2,7 +2,7 @@
 -- `read-size`); a word of at most 1,025 items that spells such a diagram is read (`spell-read`).
 use mathlib.Core.Path.{_≡_, refl, ap}
 use mathlib.Core.Bool.{Bool, true, false}
-use mathlib.Core.Option.{Option, none, some}
+use mathlib.Core.Option.{some}
 use mathlib.Core.List.{List, [], _∷_}
 use Prim.Native.Nat.{ℕ, zero, suc, _≤_}
 use native.Mathlib.Omega.{arith}
@@ -12,22 +12,17 @@ use Rattle.lists.specs.Lists.{pick, put, cut}
 use Rattle.lists.proofs.Tests.{leb-true, le-true}
 use Rattle.lists.proofs.Lists.{length-1, length-3}
 use Rattle.words.specs.Word.{Pair, spells, spell}
+use Rattle.words.proofs.Growing.{none≢some, picked}
+use Rattle.words.proofs.Shape.{grows}
 use Rattle.reading.specs.Read.{Read, refused, built, items, opening, read}
 
 not-built : (n : ℕ) (D : Pair) → ¬ (refused n ≡ built D)
 not-built n D e = let z : _≡_ {A = ℕ} 0 1 = cc in omega arith
 
-not-some : (D : Pair) → ¬ (_≡_ {A = Option Pair} none (some D))
-not-some D e = let z : _≡_ {A = ℕ} 0 1 = cc in omega arith
-
--- a test that is passed, where what follows is built, or is some diagram
+-- a test that is passed, where what follows is built
 built-passed : (b : Bool) (q : Read) (n : ℕ) (D : Pair) → pick b q (refused n) ≡ built D → (b ≡ true) × (q ≡ built D)
 built-passed true q n D e = (refl, e)
 built-passed false q n D e = absurd (not-built n D e)
-
-some-passed : (b : Bool) (q : Option Pair) (D : Pair) → pick b q none ≡ some D → (b ≡ true) × (q ≡ some D)
-some-passed true q D e = (refl, e)
-some-passed false q D e = absurd (not-some D e)
 
 -- ---- from reading to spelling
 
@@ -80,41 +75,28 @@ read-size w D e = opening-size w D (built-passed (leb (length w) 1025) (opening 
 
 -- ---- from spelling to reading
 
--- the lists only grow
-spells-grows : (w st s0 s1 : List ℕ) (D : Pair) → spells w st s0 s1 ≡ some D → length s0 ≤ length (D .black)
-unfolding spells
-spells-grows [] [] s0 s1 D e = let z : _≡_ {A = Pair} record { black = s0; white = s1 } D = cc in let y = ap (λ (p : Pair). length (p .black)) z in omega arith
-spells-grows [] (k ∷ r) s0 s1 D e = absurd (not-some D e)
-spells-grows (x ∷ w) [] s0 s1 D e = absurd (not-some D e)
-spells-grows (zero ∷ w) (k ∷ r) s0 s1 D e = spells-grows w r s0 s1 D e
-spells-grows (suc zero ∷ w) (k ∷ r) s0 s1 D e = let g = rw length-3 at (spells-grows w _ _ _ D e) in omega arith
-spells-grows (suc (suc zero) ∷ w) (k ∷ r) s0 s1 D e = let g = rw length-1 at (spells-grows w _ _ _ D e) in omega arith
-spells-grows (suc (suc (suc d)) ∷ w) (k ∷ r) s0 s1 D e =
-    let q = some-passed (ltb d (length r)) (spells w (cut d r) s0 (put (put s1 k (getD r d 0)) (getD r d 0) k)) D e in
-    spells-grows w _ _ _ D (q .1)
-
 spells-items : (w st s0 s1 : List ℕ) (D : Pair) → length (D .black) ≤ 1024 → spells w st s0 s1 ≡ some D → items w st s0 s1 ≡ built D
 unfolding items spells
 spells-items [] [] s0 s1 D l e = let z : _≡_ {A = Pair} record { black = s0; white = s1 } D = cc in ap built z
-spells-items [] (k ∷ r) s0 s1 D l e = absurd (not-some D e)
-spells-items (x ∷ w) [] s0 s1 D l e = absurd (not-some D e)
+spells-items [] (k ∷ r) s0 s1 D l e = absurd (none≢some D e)
+spells-items (x ∷ w) [] s0 s1 D l e = absurd (none≢some D e)
 spells-items (zero ∷ w) (k ∷ r) s0 s1 D l e = spells-items w r s0 s1 D l e
 spells-items (suc zero ∷ w) (k ∷ r) s0 s1 D l e =
-    let g = rw length-3 at (spells-grows w _ _ _ D e) in
+    let g = rw length-3 at (grows w _ _ _ D e) in
     rw (le-true (suc (suc (suc (length s0)))) 1024 (omega arith)) (spells-items w _ _ _ D l e)
 spells-items (suc (suc zero) ∷ w) (k ∷ r) s0 s1 D l e =
-    let g = rw length-1 at (spells-grows w _ _ _ D e) in
+    let g = rw length-1 at (grows w _ _ _ D e) in
     rw (le-true (suc (length s0)) 1024 (omega arith)) (spells-items w _ _ _ D l e)
 spells-items (suc (suc (suc d)) ∷ w) (k ∷ r) s0 s1 D l e =
-    let q = some-passed (ltb d (length r)) (spells w (cut d r) s0 (put (put s1 k (getD r d 0)) (getD r d 0) k)) D e in
+    let q = picked (ltb d (length r)) (spells w (cut d r) s0 (put (put s1 k (getD r d 0)) (getD r d 0) k)) D e in
     rw (q .0) (spells-items w _ _ _ D l (q .1))
 
 spell-opening : (w : List ℕ) (D : Pair) → length (D .black) ≤ 1024 → spell w ≡ some D → opening w ≡ built D
 unfolding spell
-spell-opening [] D l e = absurd (not-some D e)
+spell-opening [] D l e = absurd (none≢some D e)
 spell-opening (zero ∷ w) D l e = spells-items w _ _ _ D l e
 spell-opening (suc zero ∷ w) D l e = spells-items w _ _ _ D l e
-spell-opening (suc (suc x) ∷ w) D l e = absurd (not-some D e)
+spell-opening (suc (suc x) ∷ w) D l e = absurd (none≢some D e)
 
 pub spell-read : (w : List ℕ) (D : Pair) → length (D .black) ≤ 1024 → length w ≤ 1025 → spell w ≡ some D → read w ≡ built D
 unfolding read

@@ -1,11 +1,12 @@
 -- The first places of an array after stores: those just past them join them, and those among them are stores to the list they hold.
-use mathlib.Core.Path.{_≡_, refl, ap}
+use mathlib.Core.Path.{_≡_, refl}
 use mathlib.Core.List.{List, [], _∷_, _++_, append-assoc}
 use Prim.Native.Nat.{ℕ, zero, suc, _-_, _≤_}
 use native.Mathlib.Omega.{arith}
 use lib.ListN.{length, set, take, length-set}
 use lib.Seq.{take-suc-set, take-set-lt}
 use Rattle.lists.specs.Lists.{put}
+use Rattle.lists.proofs.Lists.{put-place}
 
 pub take-3 : (x : List ℕ) (u a b c : ℕ) → suc (suc (suc u)) ≤ length x
     → take (suc (suc (suc u))) (set (set (set x u a) (suc u) b) (suc (suc u)) c) ≡ take u x ++ (a ∷ b ∷ c ∷ [])
@@ -21,10 +22,5 @@ pub take-put : (x : List ℕ) (u k v : ℕ) → k ≤ u → take u (put x k v) �
 take-put x u zero v h = refl
 take-put x u (suc k) v h = take-set-lt u x k v h
 
--- a map's entry k stands at the index k - 1
-put-at : (x : List ℕ) (k v : ℕ) → 1 ≤ k → set x (k - 1) v ≡ put x k v
-put-at x zero v h = absurd (omega arith)
-put-at x (suc k) v h = ap (λ (i : ℕ). set x i v) (omega arith)
-
 pub put-pair : (x : List ℕ) (a b : ℕ) → 1 ≤ a → 1 ≤ b → set (set x (a - 1) b) (b - 1) a ≡ put (put x a b) b a
-put-pair x a b h g = rw (put-at x a b h) (put-at (put x a b) b a g)
+put-pair x a b h g = rw (put-place x a b h) (put-place (put x a b) b a g)

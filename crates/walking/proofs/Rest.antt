@@ -1,5 +1,4 @@
--- The ways to go on at a stack, by their first event, and where each event leads. That the bound on their length, where it is enough, does not matter
--- comes first.
+-- The ways to go on at a stack, by their first event, and where each event leads.
 use mathlib.Core.Path.{_≡_, refl, sym, _∙_}
 use mathlib.Core.Logic.{_≢_}
 use mathlib.Core.List.{List, [], _∷_, _++_, append-assoc, append-nil}
@@ -8,30 +7,9 @@ use native.Mathlib.Nat.{add-zero, add-suc, suc-add}
 use native.Mathlib.Numerals.{sub-one}
 use native.Mathlib.Omega.{arith}
 use Rattle.words.specs.Shape.{pre, less1, less3}
-use Rattle.counting.specs.Listing.{each, fan, ends, tails}
-use Rattle.counting.proofs.Tails.{less1-same, less3-same, pre-le}
+use Rattle.counting.specs.Listing.{each, fan, tails}
+use Rattle.counting.proofs.Tails.{join, less1-same, less3-same, pre-le, tails-0, tails-same}
 use Rattle.walking.specs.Walk.{rest, onward, Leads}
-
--- ---- two bounds that are enough give the same list
-
-parts : (h : ℕ) (a a′ b b′ c c′ d d′ : List (List ℕ)) → a ≡ a′ → b ≡ b′ → c ≡ c′ → d ≡ d′
-    → each 0 a ++ (each 1 b ++ (each 2 c ++ fan 3 h d)) ≡ each 0 a′ ++ (each 1 b′ ++ (each 2 c′ ++ fan 3 h d′))
-parts h a a′ b b′ c c′ d d′ p q r s = cc
-
-tails-0 : (m f : ℕ) → tails m 0 f ≡ ends f
-unfolding tails
-tails-0 zero f = refl
-tails-0 (suc m) f = refl
-
-tails-same : (m k h f : ℕ) → h + f ≤ m → h + f ≤ k → tails m h f ≡ tails k h f
-unfolding tails
-tails-same zero k zero f a b = sym (tails-0 k f)
-tails-same zero k (suc h) f a b = absurd (omega arith)
-tails-same (suc m) k zero f a b = sym (tails-0 k f)
-tails-same (suc m) zero (suc h) f a b = absurd (omega arith)
-tails-same (suc m) (suc k) (suc h) f a b =
-    parts h _ _ _ _ _ _ _ _ (tails-same m k h f (omega arith) (omega arith)) (less3-same f [] _ _ (λ g q. tails-same m k (suc (suc h)) g (omega arith) (omega arith))) (less1-same f [] _ _ (λ g q. tails-same m k h g (omega arith) (omega arith)))
-    (let i = pre-le h in tails-same m k (pre h) f (omega arith) (omega arith))
 
 pub rest-by : (m h f : ℕ) → h + f ≤ m → tails m h f ≡ rest h f
 unfolding rest
@@ -69,7 +47,7 @@ rest-suc : (h f : ℕ) → rest (suc h) f ≡ each 0 (rest h f) ++ (each 1 (less
 unfolding tails
 rest-suc h f =
     sym (rest-by (suc (h + f)) (suc h) f (omega arith))
-    ∙ parts h _ _ _ _ _ _ _ _ (rest-by (h + f) h f (omega arith)) (less3-same f [] _ _ (λ g q. rest-by (h + f) (suc (suc h)) g (omega arith))) (less1-same f [] _ _ (λ g q. rest-by (h + f) h g (omega arith)))
+    ∙ join h _ _ _ _ _ _ _ _ (rest-by (h + f) h f (omega arith)) (less3-same f [] _ _ (λ g q. rest-by (h + f) (suc (suc h)) g (omega arith))) (less1-same f [] _ _ (λ g q. rest-by (h + f) h g (omega arith)))
     (let i = pre-le h in rest-by (h + f) (pre h) f (omega arith))
 
 -- the events below h + 3 are all there are

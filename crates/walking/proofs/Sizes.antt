@@ -13,12 +13,13 @@ use Rattle.lists.specs.Ranges.{Edge, every}
 use Rattle.lists.proofs.Tests.{leb-true, lt?}
 use Rattle.lists.proofs.Ranges.{every-true}
 use Rattle.words.specs.Shape.{less1, less3}
+use Rattle.words.proofs.Outputs.{from-0, from-from}
 use Rattle.counting.specs.Listing.{each, tails, listing}
 use Rattle.walking.specs.Promises.{flat, Wrote}
 use Rattle.walking.specs.declared.Walked.the-variants.{Numbers}
 use Rattle.walking.specs.Walk.{rest, text, Room, Added}
 use Rattle.walking.proofs.Rest.{rest-by}
-use Rattle.walking.proofs.Texts.{text-append, text-each, from-0, from-from}
+use Rattle.walking.proofs.Texts.{text-append, text-each}
 
 -- ---- one computed test
 

@@ -8,10 +8,12 @@ use native.Mathlib.Numerals.{add-one}
 use native.Mathlib.Omega.{arith}
 use lib.ListN.{length, set, take, length-append, length-set}
 use lib.Seq.{take-set-le, take-suc-set, take-take, length-take-le}
+use Rattle.words.specs.Outputs.{from}
+use Rattle.words.proofs.Outputs.{from-none, from-from}
 use Rattle.counting.specs.Listing.{each}
-use Rattle.walking.specs.Walk.{rest, onward, text, from, Leads, Room, Added}
+use Rattle.walking.specs.Walk.{rest, onward, text, Leads, Room, Added}
 use Rattle.walking.proofs.Rest.{rest-end, rest-dead, begun, begun-all}
-use Rattle.walking.proofs.Texts.{text-append, text-each, text-none, text-one, from-none, from-from}
+use Rattle.walking.proofs.Texts.{text-append, text-each, text-none, text-one}
 
 -- ---- end or pop
 

@@ -3,12 +3,12 @@
 --   rest h f            the ways to go on at a stack of height h with f labels free, in order
 --   onward e h f        the ways to go on after the event e, with h edges pending besides the one it popped
 --   text p ws           the words ws one after another, each behind p
---   from i x a          the list a with x written over it from place i on; places go from 0
 use mathlib.Core.Path.{_≡_}
 use mathlib.Core.List.{List, [], _∷_, _++_}
 use Prim.Native.Nat.{ℕ, zero, suc, _+_, _*_, _≤_, _<_}
-use lib.ListN.{length, take, drop}
+use lib.ListN.{length, take}
 use Rattle.words.specs.Shape.{pre, less1, less3}
+unfoldable pub use Rattle.words.specs.Outputs.{from}
 use Rattle.counting.specs.Listing.{tails}
 
 unfoldable pub rest : ℕ → ℕ → List (List ℕ)
@@ -23,9 +23,6 @@ onward (suc (suc (suc d))) h f = rest (pre h) f
 unfoldable pub text : List ℕ → List (List ℕ) → List ℕ
 text p [] = []
 text p (w ∷ ws) = (p ++ w) ++ text p ws
-
-unfoldable pub from : ℕ → List ℕ → List ℕ → List ℕ
-from i x a = take i a ++ (x ++ drop (i + length x) a)
 
 -- The event e leads to h′ edges pending and f′ labels free. Twice the pending edges, plus the labels free, falls; the popped edge counts as
 -- pending before.

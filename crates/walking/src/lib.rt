@@ -3,8 +3,9 @@ use lists::fill;
 ghost use mathlib.Core.Path.{_≡_};
 ghost use Prim.Native.Nat.{suc, _+_, _≤_, _<_};
 ghost use lib.ListN.{length, take};
+ghost use Rattle.words.specs.Outputs.{from};
 ghost use Rattle.walking.specs.Promises.{Wrote};
-ghost use Rattle.walking.specs.Walk.{from, Leads, Room, Added};
+ghost use Rattle.walking.specs.Walk.{Leads, Room, Added};
 
 pub enum Walked {
     Numbers(usize),

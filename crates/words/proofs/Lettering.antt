@@ -7,12 +7,15 @@ use Prim.Native.Nat.{ℕ, zero, suc, _+_, _-_, _≤_, _<_}
 use native.Mathlib.Numerals.{add-one}
 use native.Mathlib.Omega.{arith}
 use lib.ListN.{length, getD, set, take, drop, length-append, length-set, drop-of-length-le}
-use lib.Seq.{take-all, drop-cons}
+use lib.Seq.{drop-cons}
 use Rattle.lists.proofs.Tests.{lt-true, lt-false, le-true, le-false}
-use Rattle.words.specs.Letters.{decimal, over, Wrote, Put, first-letter, event-letters, events-letters, letters, Lettering}
+use Rattle.lists.proofs.Lists.{rest-is}
+use Rattle.words.specs.Outputs.{from}
+use Rattle.words.specs.Letters.{decimal, Wrote, Put, first-letter, event-letters, events-letters, letters, Lettering}
 use Rattle.words.specs.declared.Lettered.{Lettered}
 use Rattle.words.specs.declared.Lettered.the-variants.{Length, Refused}
-use Rattle.words.proofs.Writing.{length-over, over-none, over-over, wrote-byte, wrote-then, put-wrote}
+use Rattle.words.proofs.Outputs.{from-none, from-length, from-from}
+use Rattle.words.proofs.Writing.{wrote-byte, wrote-then, put-wrote}
 
 -- ---- an event
 
@@ -54,15 +57,15 @@ pub record Rest (d : List ℕ) (i : ℕ) (w e : List ℕ) (next k : ℕ) : Type 
   pub place : next + length (events-letters (drop k w)) ≡ i + length (events-letters w)
   pub within : i + length (events-letters w) ≤ length d
   pub long : length e ≡ length d
-  pub rest : over e next (events-letters (drop k w)) ≡ over d i (events-letters w)
+  pub rest : from next (events-letters (drop k w)) e ≡ from i (events-letters w) d
 
 pub rest-more : (d : List ℕ) (i : ℕ) (w e : List ℕ) (next k next′ : ℕ) (e′ : List ℕ)
     → k < length w → Rest d i w e next k → Wrote e next (event-letters (getD w k 0)) next′ e′ → Rest d i w e′ next′ (k + 1)
 rest-more d i w e next k next′ e′ h l a = record {
   place = omega (arith, a .next, n, l .place);
   within = l .within;
-  long = ap length (a .bytes) ∙ length-over e next s room ∙ l .long;
-  rest = rw (a .next, a .bytes) (sym (over-over e next s t room)) ∙ ap (λ (u : List ℕ). over e next u) (sym (events-from w k h)) ∙ l .rest;
+  long = ap length (a .bytes) ∙ from-length next s e room ∙ l .long;
+  rest = rw (a .next, a .bytes) (from-from next s e room t) ∙ ap (λ (u : List ℕ). from next u e) (sym (events-from w k h)) ∙ l .rest;
 }
   where
     s : List ℕ
@@ -80,7 +83,7 @@ rest-more d i w e next k next′ e′ h l a = record {
 pub rest-end : (d : List ℕ) (i : ℕ) (w e : List ℕ) (next k : ℕ) → length w ≤ k → Rest d i w e next k → Wrote d i (events-letters w) next e
 rest-end d i w e next k h l = record {
   next = omega (arith, ap length none, l .place);
-  bytes = sym (over-none e next) ∙ ap (λ (u : List ℕ). over e next u) (sym none) ∙ l .rest;
+  bytes = sym (from-none next e) ∙ ap (λ (u : List ℕ). from next u e) (sym none) ∙ l .rest;
 }
   where
     none : events-letters (drop k w) ≡ []
@@ -108,7 +111,7 @@ lettering-short x w d h s = record { answer = rw (lt-true x 2 h, le-false (lengt
 
 pub lettering-whole : (x b : ℕ) (w d : List ℕ) (n : ℕ) (e : List ℕ) → x < 2 → first-letter x ≡ b ∷ [] → length (events-letters w) < length d
     → Wrote (set d 0 b) 1 (events-letters w) n e → Lettering (x ∷ w) d (Length n) e
-unfolding letters
+unfolding letters from
 lettering-whole x b w d n e h f s a = record {
   answer = rw (lt-true x 2 h, le-true (length (letters (x ∷ w))) (length d) (omega (arith, l))) (ap Length (size ∙ sym l));
   room = rw (f, all .next) (all .bytes);
@@ -126,4 +129,4 @@ lettering-whole x b w d n e h f s a = record {
 -- a word is its first item and the part after it
 pub lettering-split : (w d : List ℕ) (r : Lettered) (e : List ℕ) → length w ≢ 0 → Lettering (getD w 0 0 ∷ take (length w - 1) (drop 1 w)) d r e → Lettering w d r e
 lettering-split [] d r e h l = absurd (h refl)
-lettering-split (x ∷ w) d r e h l = rw (take-all (length (x ∷ w) - 1) w (omega arith)) at l
+lettering-split (x ∷ w) d r e h l = rw (rest-is x w) at l

@@ -1,18 +1,18 @@
--- Laws of dictionary order: it is strict and total, the test `precedes` decides it, and `lesser` picks the least of two.
--- Each goes by recursion on both lists, comparing their first items.
+-- Laws of dictionary order: it is strict and total, the test `precedes` decides it, `lesser` picks the least of two, and the test `same`
+-- holds of equal lists alone. Each goes by recursion on both lists, comparing their first items.
 use mathlib.Core.Path.{_≡_, refl, sym, _∙_}
 use mathlib.Core.Logic.{_≢_, _⊎_, inl, inr}
 use mathlib.Core.Bool.{Bool, true, false, true≢false}
 use mathlib.Core.List.{List, [], _∷_}
-use Prim.Native.Nat.{ℕ, _+_, _≤_, _<_}
+use Prim.Native.Nat.{ℕ, suc, _+_, _≤_, _<_}
 use native.Mathlib.Numerals.{add-one}
 use native.Mathlib.Omega.{arith}
 use lib.Dec.{eqb, ltb}
-use lib.ListN.{length, getD, drop, drop-of-length-le}
+use lib.ListN.{length, getD, take, drop, drop-of-length-le}
 use lib.Seq.{drop-cons}
 use Rattle.lists.specs.Lists.{pick}
-use Rattle.lists.proofs.Tests.{lt?, lt-true, lt-false, ltb-true, eqb-eq, eqb-ne, eqb-true, both-true}
-use Rattle.words.specs.Order.{Before, precedes, lesser}
+use Rattle.lists.proofs.Tests.{not-true, lt?, lt-true, lt-false, ltb-true, eqb-same, eqb-eq, eqb-ne, eqb-true, both-true}
+use Rattle.words.specs.Order.{Before, precedes, lesser, same}
 
 -- ---- a strict order
 
@@ -76,11 +76,7 @@ pub precedes-false : (u v : List ℕ) → precedes u v ≡ false → ¬ Before u
 precedes-false u v e l = true≢false (sym (before-true u v l) ∙ e)
 
 pub before-false : (u v : List ℕ) → ¬ Before u v → precedes u v ≡ false
-before-false u v n = go (precedes u v) refl
-  where
-    go : (b : Bool) → precedes u v ≡ b → precedes u v ≡ false
-    go true e = absurd (n (precedes-true u v e))
-    go false e = e
+before-false u v n = not-true (precedes u v) (λ e. n (precedes-true u v e))
 
 -- ---- the lesser of two
 
@@ -101,20 +97,60 @@ lesser-least u v = go (precedes v u) refl
 pub lesser-first : (u v : List ℕ) → u ≡ v → precedes v u ≡ false
 lesser-first u v e = before-false v u (rw e (before-irrefl v))
 
+pub lesser-beaten : (u v : List ℕ) → precedes (lesser u v) u ≡ precedes v u
+lesser-beaten u v = go (precedes v u) refl
+  where
+    go : (b : Bool) → precedes v u ≡ b → precedes (pick b v u) u ≡ b
+    go true e = e
+    go false e = before-false u u (before-irrefl u)
+
 -- ---- the steps of a comparison: what is left of both lists from place i on decides
 
 pub precedes-from : (u v : List ℕ) (i : ℕ) → i < length u → i < length v → getD u i 0 ≡ getD v i 0 → precedes (drop i u) (drop i v) ≡ precedes (drop (i + 1) u) (drop (i + 1) v)
 precedes-from u v i hu hv e = rw (drop-cons u i 0 hu, drop-cons v i 0 hv, add-one, lt-false (getD u i 0) (getD v i 0) (omega arith), eqb-eq (getD u i 0) (getD v i 0) e)
 
 pub precedes-by : (u v : List ℕ) (i : ℕ) → i < length u → i < length v → getD u i 0 ≢ getD v i 0 → precedes (drop i u) (drop i v) ≡ ltb (getD u i 0) (getD v i 0)
-precedes-by u v i hu hv n = rw (drop-cons u i 0 hu, drop-cons v i 0 hv, eqb-ne (getD u i 0) (getD v i 0) n) (same (ltb (getD u i 0) (getD v i 0)))
+precedes-by u v i hu hv n = rw (drop-cons u i 0 hu, drop-cons v i 0 hv, eqb-ne (getD u i 0) (getD v i 0) n) (itself (ltb (getD u i 0) (getD v i 0)))
   where
-    same : (b : Bool) → pick b true false ≡ b
-    same true = refl
-    same false = refl
+    itself : (b : Bool) → pick b true false ≡ b
+    itself true = refl
+    itself false = refl
 
 pub precedes-short : (u v : List ℕ) (i : ℕ) → length u ≤ i → i < length v → precedes (drop i u) (drop i v) ≡ true
 precedes-short u v i hu hv = rw (drop-of-length-le u hu, drop-cons v i 0 hv)
 
 pub precedes-past : (u v : List ℕ) (i : ℕ) → length v ≤ i → precedes (drop i u) (drop i v) ≡ false
 precedes-past u v i h = rw (drop-of-length-le v h)
+
+-- no more than one item past the end of u matters
+pub precedes-near : (u v : List ℕ) → precedes u (take (length u + 1) v) ≡ precedes u v
+precedes-near u v = rw (add-one (length u)) (near u v)
+  where
+    near : (u v : List ℕ) → precedes u (take (suc (length u)) v) ≡ precedes u v
+    near u [] = refl
+    near [] (y ∷ v) = refl
+    near (x ∷ u) (y ∷ v) = rw (near u v)
+
+-- ---- equality
+
+pub same-true : (u v : List ℕ) → same u v ≡ true → u ≡ v
+same-true [] [] e = refl
+same-true [] (y ∷ v) e = absurd (true≢false (sym e))
+same-true (x ∷ u) [] e = absurd (true≢false (sym e))
+same-true (x ∷ u) (y ∷ v) e = let b = both-true (eqb x y) (same u v) e in rw (eqb-true x y (b .0), same-true u v (b .1))
+
+pub same-self : (u : List ℕ) → same u u ≡ true
+same-self [] = refl
+same-self (x ∷ u) = rw (eqb-same x) (same-self u)
+
+pub same-false : (u v : List ℕ) → u ≢ v → same u v ≡ false
+same-false u v n = not-true (same u v) (λ e. n (same-true u v e))
+
+pub same-from : (u v : List ℕ) (i : ℕ) → i < length u → i < length v → getD u i 0 ≡ getD v i 0 → same (drop i u) (drop i v) ≡ same (drop (i + 1) u) (drop (i + 1) v)
+same-from u v i hu hv e = rw (drop-cons u i 0 hu, drop-cons v i 0 hv, add-one, eqb-eq (getD u i 0) (getD v i 0) e)
+
+pub same-by : (u v : List ℕ) (i : ℕ) → i < length u → i < length v → getD u i 0 ≢ getD v i 0 → same (drop i u) (drop i v) ≡ false
+same-by u v i hu hv n = rw (drop-cons u i 0 hu, drop-cons v i 0 hv, eqb-ne (getD u i 0) (getD v i 0) n)
+
+pub same-over : (u v : List ℕ) (i : ℕ) → length u ≤ i → length v ≤ i → same (drop i u) (drop i v) ≡ true
+same-over u v i hu hv = rw (drop-of-length-le u hu, drop-of-length-le v hv)

@@ -6,7 +6,7 @@ use Prim.Native.Nat.{ℕ, zero, suc, _+_, _≤_}
 use native.Mathlib.Omega.{arith}
 use lib.Dec.{ltb}
 use lib.ListN.{length, getD}
-use Rattle.lists.specs.Lists.{at, put, cut}
+use Rattle.lists.specs.Lists.{put, cut}
 use Rattle.lists.proofs.Lists.{length-cut, length-3, length-1}
 use Rattle.lists.proofs.Tests.{lt-true, ltb-true}
 use Rattle.words.specs.Shape.{less1, less3, Fits, Word}

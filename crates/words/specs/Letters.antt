@@ -2,8 +2,7 @@
 --
 --   digits k m            the digits of m, the highest first, where there are at most k; otherwise the k lowest
 --   decimal m             m in decimal, for a number of 64 bits or fewer
---   over d i s            the bytes d with s in place of those from place i on
---   Wrote d i s r e       s was written at place i of d: e is `over d i s`, and r the place after it
+--   Wrote d i s r e       s was written over d from place i on, which left e; r is the place after s
 --   Put d i s r e         the same where s fits; where it does not, e is d and r is i
 --   letters w             U or T, then for each item W, F, B or J with d in decimal; a first item above 1 has no letter
 --   opens w               w has no item, or a first item that is 0 or 1
@@ -16,8 +15,9 @@ use mathlib.Core.Bool.{Bool, true}
 use mathlib.Core.List.{List, [], _∷_, _++_}
 use Prim.Native.Nat.{ℕ, zero, suc, _+_, _/_, _%_}
 use lib.Dec.{leb, ltb}
-use lib.ListN.{length, take, drop}
+use lib.ListN.{length, drop}
 use Rattle.lists.specs.Lists.{pick}
+use Rattle.words.specs.Outputs.{from}
 use Rattle.words.specs.declared.Lettered.{Lettered}
 use Rattle.words.specs.declared.Lettered.the-variants.{Length, Refused}
 
@@ -33,16 +33,13 @@ decimal m = digits 20 m
 
 -- ---- writing at a place
 
-abbrev pub over : List ℕ → ℕ → List ℕ → List ℕ
-over d i s = take i d ++ (s ++ drop (i + length s) d)
-
 pub record Wrote (d : List ℕ) (i : ℕ) (s : List ℕ) (r : ℕ) (e : List ℕ) : Type 0 where
   pub next : r ≡ i + length s
-  pub bytes : e ≡ over d i s
+  pub bytes : e ≡ from i s d
 
 pub record Put (d : List ℕ) (i : ℕ) (s : List ℕ) (r : ℕ) (e : List ℕ) : Type 0 where
   pub next : r ≡ pick (leb (i + length s) (length d)) (i + length s) i
-  pub bytes : e ≡ pick (leb (i + length s) (length d)) (over d i s) d
+  pub bytes : e ≡ pick (leb (i + length s) (length d)) (from i s d) d
 
 -- ---- words
 

@@ -3,6 +3,7 @@
 --   Before u v        u comes before v
 --   precedes u v      the same as a test
 --   lesser u v        the smaller of two lists; on equality the first
+--   same u v          the two lists are the same, as a test
 use mathlib.Core.Path.{_≡_}
 use mathlib.Core.Logic.{_⊎_}
 use mathlib.Core.Bool.{Bool, true, false}
@@ -23,3 +24,9 @@ precedes (x ∷ u) (y ∷ v) = pick (ltb x y) true (pick (eqb x y) (precedes u v
 
 abbrev pub lesser : List ℕ → List ℕ → List ℕ
 lesser u v = pick (precedes v u) v u
+
+abbrev pub same : List ℕ → List ℕ → Bool
+same [] [] = true
+same [] (y ∷ v) = false
+same (x ∷ u) [] = false
+same (x ∷ u) (y ∷ v) = pick (eqb x y) (same u v) false

@@ -7,7 +7,7 @@
 --                                 their length. A pending label stands in s1 as its own partner until an event joins it to another.
 --   spell w                       the diagram that the word w spells; none where it spells none
 --   Spells n w                    w spells a diagram of n edges
-use mathlib.Core.Path.{_≡_, refl}
+use mathlib.Core.Path.{_≡_}
 use mathlib.Core.Option.{Option, none, some}
 use mathlib.Core.List.{List, [], _∷_, _++_}
 use Prim.Native.Nat.{ℕ, zero, suc}

@@ -4,20 +4,21 @@ use mathlib.Core.Path.{refl}
 use mathlib.Core.Logic.{inl, inr}
 use native.Mathlib.Omega.{arith}
 use denote.Ref.{now}
+use Rattle.words.proofs.Outputs.{not-short, untouched}
 use Rattle.labelled.proofs.Arrays.{zeros-ready}
 use Rattle.labelled.proofs.Sofar.{labels-edges}
-use Rattle.canonical.proofs.Characteristic.{not-short, held-white, relabel-written}
+use Rattle.canonical.proofs.Characteristic.{held-white, relabel-written}
 use Rattle.canonical.proofs.relabel_accepted.Statement.{statement}
 use Rattle.canonical.proofs.relabel_accepted.Tie as tie
 
 returns : tie.Need-returns
-returns c = (inr (refl, c .before .before .before .before .before .before .pre, inl (c .if1 .taken)), record { s0-same = refl; s1-same = refl; word-same = refl })
+returns c = (inr (refl, c .before .before .before .before .before .before .pre, inl (c .if1 .taken)), untouched _ _ _)
 
 returns-2 : tie.Need-returns-2
-returns-2 c = (inr (refl, c .before .before .before .before .before .before .before .pre, inr (inl (c .if2 .taken))), record { s0-same = refl; s1-same = refl; word-same = refl })
+returns-2 c = (inr (refl, c .before .before .before .before .before .before .before .pre, inr (inl (c .if2 .taken))), untouched _ _ _)
 
 returns-3 : tie.Need-returns-3
-returns-3 c = (inr (refl, c .before .before .before .before .before .before .before .before .pre, inr (inr (omega arith))), record { s0-same = refl; s1-same = refl; word-same = refl })
+returns-3 c = (inr (refl, c .before .before .before .before .before .before .before .before .pre, inr (inr (omega arith))), untouched _ _ _)
 
 cast-write-word : tie.Need-cast-write-word
 cast-write-word c = search needs

@@ -3,8 +3,8 @@ use borrow.Author.Needs.{needs}
 use Prim.Native.Nat.{_-_}
 use lib.ListN.{length, getD}
 use Rattle.lists.specs.Ranges.{Edge}
+use Rattle.lists.proofs.Lists.{places-edges}
 use Rattle.diagrams.proofs.Answers.{edge-test, Tested, tested-none, tested-more, tested-all}
-use Rattle.diagrams.proofs.Entries.{places-edges}
 use Rattle.diagrams.proofs.entries_in.Statement.{statement}
 use Rattle.diagrams.proofs.entries_in.Tie as tie
 

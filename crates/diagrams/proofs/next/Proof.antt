@@ -1,7 +1,7 @@
 -- `next` meets its contract: edge x stands at place x - 1.
 use borrow.Author.Needs.{needs}
 use mathlib.Core.Path.{_∙_}
-use Rattle.diagrams.proofs.Entries.{at-place}
+use Rattle.lists.proofs.Lists.{at-place}
 use Rattle.diagrams.proofs.next.Statement.{statement}
 use Rattle.diagrams.proofs.next.Tie as tie
 

@@ -1,6 +1,6 @@
 -- `visit` meets its contract: two calls of `reach`.
 use borrow.Author.Needs.{needs}
-use Rattle.diagrams.proofs.Entries.{at-place}
+use Rattle.lists.proofs.Lists.{at-place}
 use Rattle.diagrams.proofs.Searching.{black-small, white-small}
 use Rattle.diagrams.proofs.visit.Statement.{statement}
 use Rattle.diagrams.proofs.visit.Tie as tie

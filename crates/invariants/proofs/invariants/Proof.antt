@@ -1,7 +1,7 @@
 -- Invariants: check's two answers. What it accepts can be measured, and a refusal is passed on.
 use borrow.Author.Needs.{needs}
 use Rattle.diagrams.specs.Check.{Accepts}
-use Rattle.invariants.proofs.Accepted.{accepts-mapped}
+use Rattle.diagrams.proofs.Checks.{accepts-mapped}
 use Rattle.invariants.proofs.invariants.Statement.{statement}
 use Rattle.invariants.proofs.invariants.Tie as tie
 

@@ -3,7 +3,7 @@ use borrow.Author.Needs.{needs}
 use mathlib.Core.Path.{refl}
 use mathlib.Core.Logic.{inl, inr}
 use native.Mathlib.Omega.{arith}
-use Rattle.positions.proofs.Answers.{not-short, untouched}
+use Rattle.words.proofs.Outputs.{not-short, untouched}
 use Rattle.positions.proofs.diagram_at.Statement.{statement}
 use Rattle.positions.proofs.diagram_at.Tie as tie
 

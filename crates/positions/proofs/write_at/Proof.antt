@@ -3,17 +3,18 @@ use borrow.Author.Needs.{needs}
 use mathlib.Core.Path.{refl, sym}
 use native.Mathlib.Omega.{arith}
 use lib.Seq.{length-take-le}
+use Rattle.words.proofs.Outputs.{long-enough}
 use Rattle.counting.specs.Position.{wordAt}
 use Rattle.counting.specs.Diagrams.{diagramAt}
-use Rattle.counting.proofs.InPlace.{at-spells}
-use Rattle.positions.proofs.Answers.{over-part, over-within, room-0, room-1, room-word, at-spelled, at-length}
+use Rattle.counting.proofs.InPlace.{at-spelled, at-spells}
+use Rattle.positions.proofs.Answers.{over-part, over-within, at-length}
 use Rattle.positions.proofs.write_at.Statement.{statement}
 use Rattle.positions.proofs.write_at.Tie as tie
 
 word-at-requires : tie.Need-word-at-requires
 word-at-requires c κs =
     let start = c .before .before .before .before in
-    let x = start .args in (start .pre .0, start .pre .1, room-word (x .n) (x .s0 .now) (x .s1 .now) (x .word .now) (start .pre .2))
+    let x = start .args in (start .pre .0, start .pre .1, long-enough (x .n) (x .s0 .now) (x .s1 .now) (x .word .now) (start .pre .2) .2)
 
 slice-reshare-prefix-write-diagram : tie.Need-slice-reshare-prefix-write-diagram
 slice-reshare-prefix-write-diagram c = let x = c .before .before .before .before .before .before .before .args in over-within (wordAt (x .n) (x .p)) (x .word .now) _ _ _ refl (c .before .before .word-at .ensures .0) (c .before .before .word-at .ensures .1)
@@ -26,12 +27,12 @@ slice-aggregate-write-diagram c =
 write-diagram-requires : tie.Need-write-diagram-requires
 write-diagram-requires c κs =
     let start = c .before .before .before .before .before .before .before .before .before .before in
-    let s = start .pre .2 in (
+    let long = long-enough (start .args .n) (start .args .s0 .now) (start .args .s1 .now) (start .args .word .now) (start .pre .2) in (
       start .args .n,
       rw (over-part (wordAt (start .args .n) (start .args .p)) (start .args .word .now) _ _ _ refl (c .before .before .before .before .before .word-at .ensures .0) (c .before .before .before .before .before .word-at .ensures .1)) (at-spelled (start .args .n) (start .args .p) (start .pre .1)),
       start .pre .0 .1,
-      room-0 (start .args .n) (start .args .s0 .now) (start .args .s1 .now) (start .args .word .now) s,
-      room-1 (start .args .n) (start .args .s0 .now) (start .args .s1 .now) (start .args .word .now) s,
+      long .0,
+      long .1,
     )
 
 cast-result : tie.Need-cast-result

@@ -2,7 +2,7 @@
 use borrow.Author.Needs.{needs}
 use mathlib.Core.Path.{_∙_}
 use denote.Ref.{now}
-use Rattle.canonical.proofs.Sameness.{lesser-beaten}
+use Rattle.words.proofs.Order.{lesser-beaten}
 use Rattle.canonical.proofs.rootings.beaten.Statement.{statement}
 use Rattle.canonical.proofs.rootings.beaten.Tie as tie
 

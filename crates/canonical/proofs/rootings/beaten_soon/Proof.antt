@@ -4,7 +4,7 @@ use mathlib.Core.Path.{sym, _∙_}
 use native.Mathlib.Omega.{arith}
 use denote.Ref.{now}
 use lib.Seq.{length-take-le}
-use Rattle.canonical.proofs.Sameness.{precedes-near}
+use Rattle.words.proofs.Order.{precedes-near}
 use Rattle.canonical.proofs.rootings.beaten_soon.Statement.{statement}
 use Rattle.canonical.proofs.rootings.beaten_soon.Tie as tie
 

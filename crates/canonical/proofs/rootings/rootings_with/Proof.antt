@@ -8,11 +8,12 @@ use denote.Ref.{now}
 use lib.ListN.{length}
 use lib.Seq.{length-take-le}
 use Rattle.lists.specs.Ranges.{tally}
+use Rattle.lists.proofs.Ranges.{tally-most}
+use Rattle.words.specs.Order.{same}
 use Rattle.labelling.specs.Labelling.{wordOf}
-use Rattle.labelling.specs.Rootings.{same}
 use Rattle.labelling.proofs.Rootings.{accepts-rerooted}
 use Rattle.canonical.specs.Among.{rootingsWith}
-use Rattle.canonical.proofs.Tried.{Tried, tally-few, tally-more}
+use Rattle.canonical.proofs.Tried.{Tried, tally-more}
 use Rattle.canonical.proofs.rootings.rootings_with.Statement.{statement}
 use Rattle.canonical.proofs.rootings.rootings_with.Tie as tie
 
@@ -64,7 +65,7 @@ same-requires c κs = search needs
 
 add-found : tie.Need-add-found Inv-loop μ-loop
 add-found c =
-    let i = tally-few (c .before .before .before .before .before .before .before .before .before .before .before .before .loop .x) (λ y. same (wordOf (now (c .before .before .before .before .before .before .before .before .before .before .before .before .before .before .before .before .before .args .s0)) (now (c .before .before .before .before .before .before .before .before .before .before .before .before .before .before .before .before .before .args .s1)) y) (now (c .before .before .before .before .before .before .before .before .before .before .before .before .before .before .before .before .before .args .own))) in
+    let i = tally-most (c .before .before .before .before .before .before .before .before .before .before .before .before .loop .x) (λ y. same (wordOf (now (c .before .before .before .before .before .before .before .before .before .before .before .before .before .before .before .before .before .args .s0)) (now (c .before .before .before .before .before .before .before .before .before .before .before .before .before .before .before .before .before .args .s1)) y) (now (c .before .before .before .before .before .before .before .before .before .before .before .before .before .before .before .before .before .args .own))) in
     let n = c .before .before .before .before .before .before .before .before .before .before .before .before .before .before .before .before .before .pre .0 .size in
     let t = c .before .before .before .before .before .before .before .before .before .before .before .before .loop .inv .0 .size-is in
     let e = c .before .before .before .before .before .before .before .before .before .before .before .before .loop .inv .1 in

@@ -5,8 +5,8 @@ use Prim.Native.Nat.{_-_, _≤_}
 use native.Mathlib.Omega.{arith}
 use denote.Ref.{now}
 use lib.ListN.{length, drop}
-use Rattle.labelling.specs.Rootings.{same}
-use Rattle.canonical.proofs.Sameness.{same-false, same-from, same-by, same-over}
+use Rattle.words.specs.Order.{same}
+use Rattle.words.proofs.Order.{same-false, same-from, same-by, same-over}
 use Rattle.canonical.proofs.rootings.same.Statement.{statement}
 use Rattle.canonical.proofs.rootings.same.Tie as tie
 

@@ -1,6 +1,6 @@
 -- `follow` meets its contract: edge x stands at place x - 1.
 use borrow.Author.Needs.{needs}
-use Rattle.diagrams.proofs.Entries.{at-place}
+use Rattle.lists.proofs.Lists.{at-place}
 use Rattle.labelled.proofs.events.follow.Statement.{statement}
 use Rattle.labelled.proofs.events.follow.Tie as tie
 

@@ -1,0 +1,88 @@
+-- Laws of lists that are written to: entry by entry, one piece after another; which are long enough, and which stay as they were.
+use mathlib.Core.Path.{_≡_, refl}
+use mathlib.Core.Logic.{inl, inr, ⊎-elim}
+use mathlib.Core.List.{List, [], _∷_, _++_, append-assoc, append-nil}
+use Prim.Native.Nat.{ℕ, suc, _+_, _-_, _≤_, _<_}
+use native.Mathlib.Numerals.{add-one}
+use native.Mathlib.Nat.{add-zero, zero-add}
+use native.Mathlib.Omega.{arith}
+use borrow.Rule.Slice.PartMut.{midOf, putMid}
+use lib.ListN.{length, set, take, drop, length-append, length-drop, length-set, take-append-drop}
+use lib.Seq.{length-take-le, set-split, take-set-le, take-at, take-all, drop-set-lt, drop-cons, drop-length, drop-append-add, drop-drop, getD-set-same}
+use Rattle.lists.proofs.Tests.{lt?}
+use Rattle.words.specs.Outputs.{over, from, Short, Untouched}
+
+-- ---- writing from a place on
+
+pub from-0 : (x a : List ℕ) → from 0 x a ≡ over x a
+unfolding from
+from-0 x a = rw zero-add
+
+pub from-none : (i : ℕ) (a : List ℕ) → from i [] a ≡ a
+unfolding from
+from-none i a = rw add-zero (take-append-drop i a)
+
+pub from-length : (i : ℕ) (x a : List ℕ) → i + length x ≤ length a → length (from i x a) ≡ length a
+unfolding from
+from-length i x a h = let e = length-take-le i a (omega arith) in simp (length-append, length-drop, e) (omega arith)
+
+-- a single entry is a store
+pub from-one : (i v : ℕ) (a : List ℕ) → i < length a → from i (v ∷ []) a ≡ set a i v
+unfolding from
+from-one i v a h = rw (add-one, set-split a i v h)
+
+store-tail : (n v : ℕ) (a : List ℕ) → n < length a → drop n (set a n v) ≡ v ∷ drop (suc n) a
+store-tail n v a h = rw (drop-cons (set a n v) n 0 (rw length-set h), getD-set-same a n v 0 h, drop-set-lt (suc n) a n v (omega arith))
+
+-- a piece from its last entry backwards
+pub from-last : (i : ℕ) (x : List ℕ) (v : ℕ) (a : List ℕ) → i + length x < length a → from i (x ++ (v ∷ [])) a ≡ from i x (set a (i + length x) v)
+unfolding from
+from-last i x v a h =
+    let q : i + length (x ++ (v ∷ [])) ≡ suc (i + length x) = simp length-append (omega arith) in
+    rw (q, take-set-le i a (i + length x) v (omega arith), store-tail (i + length x) v a h, append-assoc x (v ∷ []) (drop (suc (i + length x)) a))
+
+drop-past : (p q : List ℕ) (n k : ℕ) → length p ≡ n → drop (n + k) (p ++ q) ≡ drop k q
+drop-past p q n k e = rw (← e) (drop-append-add p q k)
+
+-- one piece after another
+pub from-from : (i : ℕ) (x a : List ℕ) → i + length x ≤ length a → (y : List ℕ) → from (i + length x) y (from i x a) ≡ from i (x ++ y) a
+unfolding from
+from-from i x a h y =
+    rw (← append-assoc (take i a) x (drop n a), take-at p (drop n a) n long, drop-past p (drop n a) n (length y) long, drop-drop (length y) n a, far)
+    (simp append-assoc)
+  where
+    p : List ℕ
+    p = take i a ++ x
+
+    n : ℕ
+    n = i + length x
+
+    long : length p ≡ n
+    long = rw (length-append, length-take-le i a (omega arith))
+
+    far : i + length (x ++ y) ≡ n + length y
+    far = simp length-append (omega arith)
+
+-- the part from place i to the end, with x over its beginning, put back into the list
+pub from-part : (i : ℕ) (x a b : List ℕ) → i + length x ≤ length a → b ≡ over x (midOf i (length a - i) a) → putMid i (length a - i) a b ≡ from i x a
+unfolding from
+from-part i x a b h e =
+    let l : length (drop i a) ≡ length a - i = length-drop i a in
+    let m : midOf i (length a - i) a ≡ drop i a = take-all (length a - i) (drop i a) (omega arith) in
+    let f : b ≡ x ++ drop (length x) (drop i a) = rw m at e in
+    let p : drop (length a - i) (drop i a) ≡ [] = rw (← l) (drop-length (drop i a)) in
+    rw (p, f, drop-drop (length x) i a, append-nil)
+
+-- ---- lists that are long enough, and lists that stay
+
+pub not-short : (n : ℕ) (a0 a1 aw : List ℕ) → n ≤ length a0 → n ≤ length a1 → n < length aw → ¬ Short n a0 a1 aw
+not-short n a0 a1 aw h i j = ⊎-elim (λ l. omega arith) (⊎-elim (λ l. omega arith) (λ l. omega arith))
+
+pub long-enough : (n : ℕ) (a0 a1 aw : List ℕ) → ¬ Short n a0 a1 aw → (n ≤ length a0) × (n ≤ length a1) × (suc n ≤ length aw)
+long-enough n a0 a1 aw k = (by n (length a0) (λ l. k (inl l)), by n (length a1) (λ l. k (inr (inl l))), by (suc n) (length aw) (λ l. k (inr (inr l))))
+  where
+    by : (m l : ℕ) → ¬ (l < m) → m ≤ l
+    by m l k = ⊎-elim (λ a. absurd (k a)) (λ a. a) (lt? l m)
+
+pub untouched : (a0 a1 aw : List ℕ) → Untouched a0 a1 aw a0 a1 aw
+untouched a0 a1 aw = record { s0-same = refl; s1-same = refl; word-same = refl }
