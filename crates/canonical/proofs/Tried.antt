@@ -32,16 +32,17 @@ each-more P x k p y e = go (same? y (x + 1))
     go (inl q) = rw q p
     go (inr q) = k y (omega (arith, q))
 
-module _ (s0 s1 own c : List ℕ) (x : ℕ) (t : Traced s0 s1 (x + 1) own c) where
-  -- ---- none before
+-- ---- none before
 
-  pub none-more : ((y : ℕ) → Edge x y → ¬ Before (wordOf s0 s1 y) own) → precedes c own ≡ false → (y : ℕ) → Edge (x + 1) y → ¬ Before (wordOf s0 s1 y) own
-  none-more k e = each-more (λ y. ¬ Before (wordOf s0 s1 y) own) x k (precedes-false (wordOf s0 s1 (x + 1)) own (sym (t .order-as) ∙ e))
+module _ (s0 s1 own : List ℕ) (x : ℕ) where
+  pub none-more : ((y : ℕ) → Edge x y → ¬ Before (wordOf s0 s1 y) own) → precedes (wordOf s0 s1 (x + 1)) own ≡ false → (y : ℕ) → Edge (x + 1) y → ¬ Before (wordOf s0 s1 y) own
+  none-more k e = each-more (λ y. ¬ Before (wordOf s0 s1 y) own) x k (precedes-false (wordOf s0 s1 (x + 1)) own e)
 
-  pub none-fails : x < length s0 → precedes c own ≡ true → ¬ NoneBefore s0 s1 own
+  pub none-fails : x < length s0 → precedes (wordOf s0 s1 (x + 1)) own ≡ true → ¬ NoneBefore s0 s1 own
   unfolding NoneBefore
-  none-fails h e k = k (x + 1) (omega arith) (precedes-true (wordOf s0 s1 (x + 1)) own (sym (t .order-as) ∙ e))
+  none-fails h e k = k (x + 1) (omega arith) (precedes-true (wordOf s0 s1 (x + 1)) own e)
 
+module _ (s0 s1 own c : List ℕ) (x : ℕ) (t : Traced s0 s1 (x + 1) own c) where
   -- ---- some rooting with this word
 
   pub unlike-more : ((y : ℕ) → Edge x y → wordOf s0 s1 y ≢ own) → same c own ≡ false → (y : ℕ) → Edge (x + 1) y → wordOf s0 s1 y ≢ own

@@ -303,6 +303,7 @@ fn kept_accepted(s0: &[u16], s1: &[u16], root: u64) -> bool
         &mut order,
         &mut next,
         &mut prev,
+        root as u16,
         &own[..m],
         &mut cand,
     )

@@ -8,6 +8,7 @@ ghost use Prim.Native.Nat.{_<_};
 ghost use lib.ListN.{length};
 ghost use Rattle.words.specs.Order.{precedes, same};
 ghost use Rattle.diagrams.specs.Check.{Accepts};
+ghost use Rattle.labelling.specs.Labelling.{wordOf};
 ghost use Rattle.labelled.specs.Scratch.{Ready};
 ghost use Rattle.canonical.specs.Among.{NoneBefore, SomeRooting, rootingsWith};
 
@@ -47,7 +48,34 @@ fn beaten_soon<'a>(own: &'a [u16], c: &'a [u16]) -> bool
     beaten(&own[..k + 1], c)
 }
 
-// Whether no rooting's word comes before own.
+// Whether the word of the rooting x comes before own, the word of the root, which itself is not traced.
+fn comes_before(
+    s0: &[u16],
+    s1: &[u16],
+    labels: &mut [u16; 1025],
+    order: &mut [u16; 1025],
+    next: &mut [u16; 1025],
+    prev: &mut [u16; 1025],
+    x: u16,
+    root: u16,
+    own: &[u16],
+    cand: &mut [u16],
+) -> bool
+    requires { ⌜ Accepts (now s0) (now s1) x ⌝ }
+    requires { ⌜ Ready (now labels) (now order) (now next) (now prev) ⌝ }
+    requires { ⌜ length (now s0) < length (now cand) ⌝ }
+    requires { ⌜ wordOf (now s0) (now s1) root ≡ now own ⌝ }
+    ensures answer { λ r. ⌜ r ≡ precedes (wordOf (now (s0 .entry)) (now (s1 .entry)) x) (now (own .entry)) ⌝ }
+    ensures ready { λ _. ⌜ Ready (now (labels .exit)) (now (order .exit)) (now (next .exit)) (now (prev .exit)) ⌝ }
+{
+    if x == root {
+        return false;
+    }
+    let k = trace(s0, s1, labels, order, next, prev, x, own, cand);
+    beaten_soon(own, &cand[..k])
+}
+
+// Whether no rooting's word comes before own, the word of the root.
 pub fn none_before(
     s0: &[u16],
     s1: &[u16],
@@ -55,12 +83,14 @@ pub fn none_before(
     order: &mut [u16; 1025],
     next: &mut [u16; 1025],
     prev: &mut [u16; 1025],
+    root: u16,
     own: &[u16],
     cand: &mut [u16],
 ) -> bool
-    requires { ⌜ Accepts (now s0) (now s1) 1 ⌝ }
+    requires { ⌜ Accepts (now s0) (now s1) root ⌝ }
     requires { ⌜ Ready (now labels) (now order) (now next) (now prev) ⌝ }
     requires { ⌜ length (now s0) < length (now cand) ⌝ }
+    requires { ⌜ wordOf (now s0) (now s1) root ≡ now own ⌝ }
     ensures answer { λ r. ⌜ (r ≡ true) ↔ NoneBefore (now (s0 .entry)) (now (s1 .entry)) (now (own .entry)) ⌝ }
     ensures ready { λ _. ⌜ Ready (now (labels .exit)) (now (order .exit)) (now (next .exit)) (now (prev .exit)) ⌝ }
 {
@@ -68,8 +98,9 @@ pub fn none_before(
     let mut x: usize = 0;
     while x < n {
         x += 1;
-        let k = trace(s0, s1, labels, order, next, prev, x as u16, own, cand);
-        if beaten_soon(own, &cand[..k]) {
+        if comes_before(
+            s0, s1, labels, order, next, prev, x as u16, root, own, cand,
+        ) {
             return false;
         }
     }

@@ -3,14 +3,13 @@
 // then 9, an output list that is short. Fewer rows than asked for: the list ended, and the run is finished. Each diagram is drawn from the one
 // before it, from where their words differ. With marks, the keep mark of each diagram comes too: the arrays of a labelling are made once for
 // the block, and no diagram that was written here is checked.
+use canonical::rootings::none_before;
 use drawing::redraw;
-use labelled::tracing::trace;
 use lists::fill;
 use lists::wide;
 use running::Run;
 use running::sound;
 use succession::successor;
-use words::precedes;
 use writing::Marks;
 ghost use mathlib.Core.Path.{_≡_};
 ghost use mathlib.Core.Logic.{_≢_, _⊎_};
@@ -240,7 +239,7 @@ pub fn list(
     }
 }
 
-// 1 where no rooting's word comes before own, the word of the root 1, and 0 where one does. The root itself is not tried.
+// 1 where no rooting's word comes before own, the word of the root 1, and 0 where one does.
 fn mark(
     s0: &[u16],
     s1: &[u16],
@@ -259,16 +258,10 @@ fn mark(
         ⊎ ((r ≡ 0) × (¬ NoneBefore (now (s0 .entry)) (now (s1 .entry)) (now (own .entry))))) ⌝ }
     ensures ready { λ _. ⌜ Ready (now (labels .exit)) (now (order .exit)) (now (next .exit)) (now (prev .exit)) ⌝ }
 {
-    let n = s0.len();
-    let mut x: usize = 1;
-    while x < n {
-        x += 1;
-        let k = trace(s0, s1, labels, order, next, prev, x as u16, own, cand);
-        if precedes(&cand[..k], own) {
-            return 0;
-        }
+    if none_before(s0, s1, labels, order, next, prev, 1, own, cand) {
+        return 1;
     }
-    1
+    0
 }
 
 // Marks the rows of a block that is written: which of its diagrams are kept.

@@ -6,7 +6,6 @@ use native.Mathlib.Omega.{arith}
 use lib.ListN.{length}
 use lib.Seq.{length-take-le}
 use Rattle.labelling.specs.Rootings.{Kept}
-use Rattle.labelling.proofs.Rootings.{accepts-rerooted}
 use Rattle.labelled.proofs.Arrays.{zeros-ready}
 use Rattle.canonical.specs.Among.{NoneBefore}
 use Rattle.canonical.proofs.kept_accepted.Statement.{statement}
@@ -29,6 +28,9 @@ slice-aggregate-own-word c = search needs
 own-word-requires : tie.Need-own-word-requires
 own-word-requires c κs = (c .before .before .before .before .before .before .before .pre, (zeros-ready, (let n = c .before .before .before .before .before .before .before .pre .size in omega arith)))
 
+cast-none-before : tie.Need-cast-none-before
+cast-none-before c = search needs
+
 array-share-prefix-own : tie.Need-array-share-prefix-own
 array-share-prefix-own c = search needs
 
@@ -39,7 +41,10 @@ slice-aggregate-none-before-2 : tie.Need-slice-aggregate-none-before-2
 slice-aggregate-none-before-2 c = search needs
 
 none-before-requires : tie.Need-none-before-requires
-none-before-requires c κs = (accepts-rerooted _ _ _ (c .before .before .before .before .before .before .before .before .before .before .before .before .before .before .before .pre) 1 (let n = c .before .before .before .before .before .before .before .before .before .before .before .before .before .before .before .pre .size in omega arith), (c .before .before .before .before .before .before .before .own-word .ensures .1 .1, (let n = c .before .before .before .before .before .before .before .before .before .before .before .before .before .before .before .pre .size in omega arith)))
+none-before-requires c κs =
+    let n = c .before .before .before .before .before .before .before .before .before .before .before .before .before .before .before .pre .size in
+    let w = c .before .before .before .before .before .before .before .own-word .ensures in
+    (c .before .before .before .before .before .before .before .before .before .before .before .before .before .before .before .pre, (w .1 .1, (omega arith, sym (w .1 .0))))
 
 returns : tie.Need-returns
 unfolding Kept NoneBefore
@@ -52,6 +57,7 @@ kept-accepted-spec =
     cast-own-word
     slice-aggregate-own-word
     own-word-requires
+    cast-none-before
     array-share-prefix-own
     slice-aggregate-none-before
     slice-aggregate-none-before-2
