@@ -1,2 +1,3 @@
+pub mod Flat
 pub mod Past
 pub mod Table

@@ -68,7 +68,7 @@ ways-small h f l = rw (← entry-ways h f l) (small h f l)
 lengths : every 19 (λ h. leb (length (getD rows (pre h) [])) (57 - 3 * pre h)) ≡ true
 lengths = refl
 
-outside : (h f : ℕ) → 56 < 3 * h + f → entry h f ≡ 0
+pub outside : (h f : ℕ) → 56 < 3 * h + f → entry h f ≡ 0
 outside h f l = go (lt? h 19)
   where
     go : (h < 19) ⊎ (19 ≤ h) → entry h f ≡ 0

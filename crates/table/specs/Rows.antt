@@ -3,11 +3,14 @@
 --
 --   row0 .. row18     row h: the ways at a stack of height h with 0, 1, 2, .. labels free; what is left out is 0
 --   entry h f         the number in row h for f labels free; 0 where there is none
+--   padded row        the row in 57 places, zeros after its numbers
+--   flat rows         such rows, padded, one after another
+--   low               rows 0 to 5 so: the number for h and f stands at place 57h + f
 --   Found h f r       the promise of the table: r is `ways h f` where 3h + f ≤ 56, and otherwise 0
 use mathlib.Core.Path.{_≡_}
-use mathlib.Core.List.{List, [], _∷_}
-use Prim.Native.Nat.{ℕ, _+_, _*_, _≤_, _<_}
-use lib.ListN.{getD}
+use mathlib.Core.List.{List, [], _∷_, _++_}
+use Prim.Native.Nat.{ℕ, _+_, _*_, _-_, _≤_, _<_}
+use lib.ListN.{length, getD, take, replicate}
 use Rattle.counting.specs.Listing.{ways}
 
 abbrev pub row0 : List ℕ
@@ -124,6 +127,16 @@ rows =
 
 abbrev pub entry : ℕ → ℕ → ℕ
 entry h f = getD (getD rows h []) f 0
+
+abbrev pub padded : List ℕ → List ℕ
+padded row = row ++ replicate (57 - length row) 0
+
+abbrev pub flat : List (List ℕ) → List ℕ
+flat [] = []
+flat (row ∷ rows) = padded row ++ flat rows
+
+abbrev pub low : List ℕ
+low = flat (take 6 rows)
 
 pub record Found (h f r : ℕ) : Type 0 where
   pub inside : 3 * h + f ≤ 56 → r ≡ ways h f
