@@ -1,18 +1,19 @@
 -- Laws of a word's items, of the pile, and of writing over the beginning of a list.
-use mathlib.Core.Path.{_≡_, refl, sym, ap, _∙_}
+use mathlib.Core.Path.{_≡_, refl, ap, _∙_}
 use mathlib.Core.Logic.{_≢_, _⊎_, inl, inr}
 use mathlib.Core.List.{List, [], _∷_, _++_, append-assoc}
 use Prim.Native.Nat.{ℕ, zero, suc, _+_, _-_, _≤_, _<_}
 use native.Mathlib.Nat.{not-suc-le-zero}
 use native.Mathlib.Numerals.{add-one}
 use native.Mathlib.Omega.{arith}
-use lib.ListN.{length, getD, set, drop, length-append, length-drop, length-set}
-use lib.Seq.{getD-set-same, getD-set-other, drop-cons, set-at, set-append-left}
+use lib.ListN.{length, getD, set, drop, length-set}
+use lib.Seq.{getD-set-same, getD-set-other, drop-cons, set-append-left}
 use Rattle.lists.specs.Lists.{put, cut}
 use Rattle.lists.specs.Ranges.{Edge}
 use Rattle.lists.proofs.Tests.{same?}
 use Rattle.lists.proofs.Lists.{length-cut, length-1}
 use Rattle.words.specs.Outputs.{over}
+pub use Rattle.words.proofs.Outputs.{over-length, over-one}
 use Rattle.writing.specs.Midway.{three, Piled, Shifted}
 
 -- the items from place i on begin with the one there
@@ -71,13 +72,6 @@ sliding-more p q at i l m s = record {
     go j h g (inr n) = getD-set-other q i j _ 0 n ∙ s .closed .moved j h (omega arith)
 
 -- ---- a list whose beginning is written over
-
-pub over-length : (s a : List ℕ) → length s ≤ length a → length (over s a) ≡ length a
-over-length s a l = simp (length-append, length-drop) (omega arith)
-
--- one entry more
-pub over-one : (s a : List ℕ) (i v : ℕ) → i ≡ length s → i < length a → set (over s a) i v ≡ over (s ++ (v ∷ [])) a
-over-one s a i v e l = rw (length-1, drop-cons a (length s) 0 (omega arith), set-at s (getD a (length s) 0) (drop (suc (length s)) a) v i (sym e), append-assoc)
 
 pub over-three : (s a : List ℕ) (i x y z : ℕ) → i ≡ length s → i + 3 ≤ length a → three (over s a) i x y z ≡ over (s ++ (x ∷ y ∷ z ∷ [])) a
 over-three s a i x y z e l =
