@@ -6,11 +6,11 @@ use Prim.Native.Nat.{ℕ, zero, suc, _+_, _-_, _≤_, _<_}
 use native.Mathlib.Nat.{not-suc-le-zero}
 use native.Mathlib.Omega.{arith}
 use lib.ListN.{length, getD, set, length-set}
-use lib.Seq.{drop-append-seam, set-append-left, set-getD, set-set, set-comm, getD-set-same, getD-set-other}
+use lib.Seq.{drop-append-seam, set-getD, set-set, set-comm, getD-set-same, getD-set-other}
 use Rattle.lists.specs.Lists.{at, put, cut, Has, All}
 use Rattle.lists.specs.Ranges.{Edge}
 use Rattle.lists.proofs.Tests.{same?}
-use Rattle.lists.proofs.Lists.{length-cut, length-put, at-place, put-place}
+use Rattle.lists.proofs.Lists.{length-cut, length-put, at-place, put-place, put-left}
 use Rattle.words.specs.Outputs.{over}
 use Rattle.writing.specs.Midway.{Piled, Shifted}
 use Rattle.writing.proofs.Lists.{piled-same}
@@ -36,10 +36,6 @@ put-back s k c e = put-put s k c k ∙ put-own s k e
 -- two that were joined are parted
 pub parted : (s : List ℕ) (k p : ℕ) → at s k ≡ k → at s p ≡ p → p ≢ k → put (put (put (put s k p) p k) p p) k k ≡ s
 parted s k p e f n = rw (put-put (put s k p) p k p, put-comm s k p p p n, put-own s p f) (put-back s k p e)
-
-pub put-left : (s t : List ℕ) (k v : ℕ) → Edge (length s) k → put (s ++ t) k v ≡ put s k v ++ t
-put-left s t zero v e = absurd (omega arith)
-put-left s t (suc k) v e = set-append-left s t k v (e .1)
 
 -- the code's view: w is k, and v its partner, as indices
 module _ (s : List ℕ) (k w v : ℕ) (e : w ≡ k) (f : v ≡ getD s (w - 1) 0) (i : Edge 64 k) (j : Edge 64 (at s k)) where

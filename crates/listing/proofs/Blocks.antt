@@ -1,6 +1,5 @@
 -- The diagrams of a block: how long their lists are together.
 use mathlib.Core.Path.{_≡_, refl, sym, ap, _∙_}
-use mathlib.Core.Logic.{_⊎_, inl, inr}
 use mathlib.Core.Option.{some}
 use mathlib.Core.List.{List}
 use Prim.Native.Nat.{ℕ, zero, suc, _+_, _*_, _≤_, _<_}
@@ -8,7 +7,6 @@ use native.Mathlib.Nat.{zero-mul, suc-mul, mul-le-mul-right}
 use native.Mathlib.Omega.{arith}
 use lib.ListN.{length, length-append}
 use Rattle.lists.proofs.Lists.{length-1}
-use Rattle.lists.proofs.Tests.{lt?}
 use Rattle.words.specs.Word.{spell}
 use Rattle.words.specs.Shape.{Word}
 use Rattle.words.proofs.Shape.{word-spells, word-length}
@@ -16,9 +14,7 @@ use Rattle.words.proofs.Spelled.{spelled-lengths}
 use Rattle.counting.specs.Listing.{count}
 use Rattle.counting.specs.Position.{wordAt}
 use Rattle.counting.specs.Diagrams.{diagramOf, diagramAt}
-use Rattle.succession.proofs.Forwards.{empty-not}
 use Rattle.succession.proofs.Places.{word-at}
-use Rattle.running.proofs.Standing.{past-none}
 use Rattle.listing.specs.Rows.{blacks, whites, flatWords, lengths}
 
 -- ---- one row
@@ -77,20 +73,3 @@ module _ (n p : ℕ) where
   unfolding lengths
   lengths-length zero = refl
   lengths-length (suc k) = rw length-1 (ap suc (lengths-length k))
-
--- ---- the word after position p
-
-module _ (n p : ℕ) (l : p ≤ count n) where
-  pub ended : length (wordAt n (suc p)) ≡ 0 → p ≡ count n
-  ended z = go (lt? p (count n))
-    where
-      go : (p < count n) ⊎ (count n ≤ p) → p ≡ count n
-      go (inl h) = absurd (empty-not n (wordAt n (suc p)) z (word-at n p h))
-      go (inr h) = omega arith
-
-  pub goes-on : ¬ (length (wordAt n (suc p)) ≡ 0) → p < count n
-  goes-on z = go (lt? p (count n))
-    where
-      go : (p < count n) ⊎ (count n ≤ p) → p < count n
-      go (inl h) = h
-      go (inr h) = absurd (z (rw (past-none n p h)))

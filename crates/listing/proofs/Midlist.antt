@@ -26,12 +26,13 @@ use Rattle.drawing.specs.Drawn.{Listed, Long, Drawn, Shares}
 use Rattle.drawing.proofs.Laws.{drawn-whole}
 use Rattle.running.specs.declared.Run.{Run}
 use Rattle.running.specs.Promises.{finished, Stands}
+use Rattle.running.proofs.Standing.{ended, goes-on}
 use Rattle.running.proofs.Giving.{held-length, held-within, held-word, held-at}
 use Rattle.listing.specs.Rows.{blacks, whites, flatWords, lengths}
 use Rattle.listing.specs.Filling.{Room, Begin, Row}
 use Rattle.listing.specs.Promises.{runOf, ShortRows, Block, Gave}
 use Rattle.listing.proofs.Parts.{over-more}
-use Rattle.listing.proofs.Blocks.{spelled-of, black-length, rows-more, rows-within, blacks-length, whites-length, words-length, lengths-length, ended, goes-on}
+use Rattle.listing.proofs.Blocks.{spelled-of, black-length, rows-more, rows-within, blacks-length, whites-length, words-length, lengths-length}
 
 -- the word that a run is at, [] where it is fresh, is the beginning of its items
 pub stands-word : (n q stage len : ℕ) (items : List ℕ) → Stands n q (runOf n stage len items) → (take len items ≡ wordAt n q) × (len ≤ length items)

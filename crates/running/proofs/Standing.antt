@@ -79,9 +79,25 @@ stands-sound n (suc p) run T = rw (T .is) record { word = wordAt n (suc p); size
 
 -- ---- the next word
 
-pub past-none : (n p : ℕ) → count n ≤ p → wordAt n (suc p) ≡ []
+past-none : (n p : ℕ) → count n ≤ p → wordAt n (suc p) ≡ []
 unfolding wordAt count
 past-none n p l = List·getD-eq-default (listing n) [] l
+
+-- there is none after position p exactly if p is the last
+module _ (n p : ℕ) (l : p ≤ count n) where
+  pub ended : length (wordAt n (suc p)) ≡ 0 → p ≡ count n
+  ended z = go (lt? p (count n))
+    where
+      go : (p < count n) ⊎ (count n ≤ p) → p ≡ count n
+      go (inl h) = absurd (empty-not n (wordAt n (suc p)) z (word-at n p h))
+      go (inr h) = omega arith
+
+  pub goes-on : ¬ (length (wordAt n (suc p)) ≡ 0) → p < count n
+  goes-on z = go (lt? p (count n))
+    where
+      go : (p < count n) ⊎ (count n ≤ p) → p < count n
+      go (inl h) = h
+      go (inr h) = absurd (z (rw (past-none n p h)))
 
 module _ (run : Run) (w : List ℕ) (T : Standing run w) where
   abbrev n : ℕ
@@ -97,11 +113,7 @@ module _ (run : Run) (w : List ℕ) (T : Standing run w) where
   last-stands z = rw last at (T .stands)
     where
       last : T .place ≡ count n
-      last = go (lt? (T .place) (count n))
-        where
-          go : (T .place < count n) ⊎ (count n ≤ T .place) → T .place ≡ count n
-          go (inl l) = absurd (empty-not n (wordAt n (suc (T .place))) (rw (← next-is) z) (word-at n (T .place) l))
-          go (inr l) = let i = T .stands .within in omega arith
+      last = ended n (T .place) (T .stands .within) (rw (← next-is) z)
 
   pub record Next : Type 0 where
     pub more : T .place < count n
@@ -112,11 +124,7 @@ module _ (run : Run) (w : List ℕ) (T : Standing run w) where
   next-stands z = record { more = more; is = next-is; word = rw next-is (word-at n (T .place) more) }
     where
       more : T .place < count n
-      more = go (lt? (T .place) (count n))
-        where
-          go : (T .place < count n) ⊎ (count n ≤ T .place) → T .place < count n
-          go (inl l) = l
-          go (inr l) = absurd (z (rw (next-is, past-none n (T .place) l)))
+      more = goes-on n (T .place) (T .stands .within) (λ y. z (rw next-is y))
 
 -- ---- what a step promises, by its branches; the run is sound but for 34
 

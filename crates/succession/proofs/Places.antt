@@ -17,7 +17,7 @@ use Rattle.counting.specs.Listing.{tails, listing, count, Sorted}
 use Rattle.counting.specs.Position.{wordAt}
 use Rattle.counting.proofs.Tails.{sound, complete, sorted}
 use Rattle.counting.proofs.Listing.{listing-sound, listing-complete, listing-sorted}
-use Rattle.counting.proofs.Positions.{sorted-at}
+use Rattle.counting.proofs.Positions.{sorted-at, at-word}
 use Rattle.succession.specs.Succession.{ends, ending, next, first, following}
 use Rattle.succession.proofs.Levels.{dead}
 use Rattle.succession.proofs.Endings.{ending-least}
@@ -100,8 +100,7 @@ module _ (m h f : ℕ) where
 -- ---- positions of a size
 
 pub word-at : (n p : ℕ) → p < count n → Word n (wordAt n (suc p))
-unfolding wordAt count
-word-at n p l = all-at (Word n) (listing n) p [] (listing-sound n) l
+word-at n p l = at-word n (suc p) (omega arith, l)
 
 pub word-stands : (n : ℕ) (w : List ℕ) → Word n w → Stands w (listing n)
 word-stands n w a = stands w (listing n) (listing-complete n w a)

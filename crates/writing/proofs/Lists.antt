@@ -7,11 +7,11 @@ use native.Mathlib.Nat.{not-suc-le-zero}
 use native.Mathlib.Numerals.{add-one}
 use native.Mathlib.Omega.{arith}
 use lib.ListN.{length, getD, set, drop, length-set}
-use lib.Seq.{getD-set-same, getD-set-other, drop-cons, set-append-left}
+use lib.Seq.{getD-set-same, getD-set-other, drop-cons}
 use Rattle.lists.specs.Lists.{put, cut}
 use Rattle.lists.specs.Ranges.{Edge}
 use Rattle.lists.proofs.Tests.{same?}
-use Rattle.lists.proofs.Lists.{length-cut, length-1}
+use Rattle.lists.proofs.Lists.{length-cut, length-put, length-1, put-place, put-left}
 use Rattle.words.specs.Outputs.{over}
 pub use Rattle.words.proofs.Outputs.{over-length, over-one}
 use Rattle.writing.specs.Midway.{three, Piled, Shifted}
@@ -85,5 +85,4 @@ over-three s a i x y z e l =
 
 -- an entry already written
 pub over-put : (s a : List ℕ) (k v : ℕ) → Edge (length s) k → set (over s a) (k - 1) v ≡ over (put s k v) a
-over-put s a zero v e = absurd (omega arith)
-over-put s a (suc k) v e = let q : suc k - 1 ≡ k = omega arith in rw (q, length-set, set-append-left s (drop (length s) a) k v (e .1))
+over-put s a k v e = rw (put-place (over s a) k v (e .0), put-left s (drop (length s) a) k v e, length-put)
