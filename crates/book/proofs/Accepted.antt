@@ -1,14 +1,14 @@
 -- What an accepted call tells of the book, and that the book it leaves is sound again.
-use mathlib.Core.Path.{_≡_, refl, sym, ap, _∙_}
-use mathlib.Core.Logic.{_≢_, _⊎_, inl, inr, ⊎-elim}
+use mathlib.Core.Path.{_≡_, refl, sym, _∙_}
+use mathlib.Core.Logic.{_≢_, _⊎_, inl, inr}
 use mathlib.Core.Bool.{Bool, true, false}
-use mathlib.Core.List.{List}
 use Prim.Native.Nat.{ℕ, zero, suc, _+_, _^_, _≤_, _<_}
 use native.Mathlib.Omega.{arith}
 use lib.Dec.{eqb, leb, ltb}
+use borrow.Author.Tests.{ltb-false, leb-false}
 use Rattle.lists.specs.Lists.{pick, at}
 use Rattle.lists.specs.Ranges.{Edge}
-use Rattle.lists.proofs.Tests.{both-true, eqb-true, eqb-false, eqb-ne, eqb-eq, le-true, leb-true, ltb-true, lt-true, same?, lt?}
+use Rattle.lists.proofs.Tests.{both-true, eqb-true, eqb-false, eqb-ne, eqb-eq, leb-true, ltb-true, same?, lt?}
 use Rattle.book.specs.declared.types.Book.{Book}
 use Rattle.book.specs.Shares.{first, last, next, ticket, expiry, finished, standing, holder, lapsed}
 use Rattle.book.specs.Sound.{among, sound}
@@ -19,21 +19,6 @@ use Rattle.book.proofs.SoundBook.{ShareSound, SoundBook, sound-facts, a
 pub zero-unless : (t : Bool) (k rest : ℕ) → 0 < k → unless t k rest ≡ 0 → (t ≡ true) × (rest ≡ 0)
 zero-unless true k rest h e = (refl, e)
 zero-unless false k rest h e = absurd (omega arith)
-
--- a test that does not hold is answered by ltb the other way round
-not-ltb : (a b : ℕ) → ltb a b ≡ false → b ≤ a
-not-ltb a b e = go (lt? a b)
-  where
-    go : (a < b) ⊎ (b ≤ a) → b ≤ a
-    go (inl l) = absurd (let z : _≡_ {A = ℕ} 0 1 = cc (lt-true a b l) in omega arith)
-    go (inr l) = l
-
-not-leb : (a b : ℕ) → leb a b ≡ false → b < a
-not-leb a b e = go (lt? b a)
-  where
-    go : (b < a) ⊎ (a ≤ b) → b < a
-    go (inl l) = l
-    go (inr l) = absurd (let z : _≡_ {A = ℕ} 0 1 = cc (le-true a b l) in omega arith)
 
 -- ---- the share where a ticket stands
 
@@ -87,7 +72,7 @@ ticket-good b tick t rest e =
         later = f .0;
         tick-small = f .1;
         stands = holder-stands b t (eqb-false _ _ (not-true _ (s .0)));
-        unlapsed = not-leb _ _ (not-true _ (u .0));
+        unlapsed = leb-false _ _ (not-true _ (u .0));
       },
       u .1,
     )
@@ -181,7 +166,7 @@ claim-good b tick j len e =
       tick-small = f .1;
       share-in = among-true _ _ (u .0);
       len-in = among-true _ _ (v .0);
-      unfinished = not-ltb _ _ (not-true _ (w .0));
+      unfinished = ltb-false _ _ (not-true _ (w .0));
       open-to-claim = by-tests (eqb (at (b .ticket) j) 0) (leb (at (b .expiry) j) tick) (eqb-true (at (b .ticket) j) 0) (leb-true (at (b .expiry) j) tick) (not-true _ (x .0));
       tickets-left = ltb-true _ _ (y .0);
     }

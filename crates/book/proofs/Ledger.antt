@@ -1,25 +1,24 @@
 -- The ledger of a book: which positions have been committed, as its next positions tell. Opening starts it empty; a claim, a take and a
 -- release leave it; a commit adds the share's next position to it.
 use mathlib.Core.Path.{_≡_, refl, sym, ap, _∙_}
-use mathlib.Core.Logic.{_≢_, _⊎_, inl, inr, ⊎-elim}
-use mathlib.Core.Bool.{Bool, true, false}
+use mathlib.Core.Logic.{_≢_, _⊎_, inl, inr}
+use mathlib.Core.Bool.{true}
 use mathlib.Core.List.{List, [], _∷_, _++_}
-use Prim.Native.Nat.{ℕ, zero, suc, pred, _+_, _-_, _^_, _≤_, _<_}
+use Prim.Native.Nat.{ℕ, zero, suc, pred, _+_, _-_, _≤_, _<_}
 use native.Mathlib.Omega.{arith}
-use lib.Dec.{eqb, leb, ltb}
-use lib.ListN.{length, replicate, length-replicate, getD}
-use Rattle.lists.specs.Lists.{pick, at, listed, Has, Apart}
-use Rattle.lists.specs.Ranges.{Edge, every}
-use Rattle.lists.proofs.Tests.{le-true, le-false, lt-true, lt-false, ltb-true, eqb-eq, same?, lt?}
-use Rattle.lists.proofs.Lists.{length-listed, at-listed, length-1}
+use lib.Dec.{leb, ltb}
+use lib.ListN.{length, length-replicate}
+use Rattle.lists.specs.Lists.{pick, Has, Apart}
+use Rattle.lists.specs.Ranges.{Edge}
+use Rattle.lists.proofs.Tests.{le-true, le-false, lt-true, ltb-true, same?, lt?}
+use Rattle.lists.proofs.Lists.{length-listed, at-listed, at-zeros, length-1, has-snoc, snoc-has, apart-snoc}
 use Rattle.lists.proofs.Ranges.{every-true, true-every}
 use Rattle.book.specs.declared.types.Book.{Book}
-use Rattle.book.specs.Shares.{first, last, next, ticket, expiry, finished, done, sum, committed, complete, holder}
-use Rattle.book.specs.Calls.{opened, entered, ticked, moved}
+use Rattle.book.specs.Shares.{first, last, next, finished, done, sum, committed, complete}
+use Rattle.book.specs.Calls.{opened}
 use Rattle.book.specs.Holding.{Holds}
 use Rattle.book.proofs.Partition.{last-le, share-once}
-use Rattle.book.proofs.SoundBook.{ShareSound, SoundBook, Unused, Long, Fitting, entered-sound, entered-long, entered-next, other-next, ticked-sound}
-use Rattle.book.proofs.Accepted.{TicketGood, ticket-unfinished, freed, kept-on}
+use Rattle.book.proofs.SoundBook.{SoundBook, Long}
 
 -- the book b of size n in k shares, with the positions C committed so far, in the order in which they were
 pub record Ledger (n k : ℕ) (b : Book) (C : List ℕ) : Type 0 where
@@ -70,32 +69,7 @@ sum-zero : (m : ℕ) (s : ℕ → ℕ) → ((j : ℕ) → Edge m j → s j ≡ 0
 sum-zero zero s e = refl
 sum-zero (suc m) s e = let x = sum-zero m s (λ j i. e j (omega arith)) in let y = e (suc m) (omega arith) in omega arith
 
--- ---- one more at the end of a list
-
-pub has-snoc : (x : ℕ) (l : List ℕ) (y : ℕ) → Has x (l ++ (y ∷ [])) → Has x l ⊎ (x ≡ y)
-has-snoc x [] y (inl e) = inr e
-has-snoc x [] y (inr h) = absurd h
-has-snoc x (z ∷ l) y (inl e) = inl (inl e)
-has-snoc x (z ∷ l) y (inr h) = ⊎-elim (λ i. inl (inr i)) (λ i. inr i) (has-snoc x l y h)
-
-pub snoc-has : (x : ℕ) (l : List ℕ) (y : ℕ) → Has x l ⊎ (x ≡ y) → Has x (l ++ (y ∷ []))
-snoc-has x [] y (inl h) = absurd h
-snoc-has x [] y (inr e) = inl e
-snoc-has x (z ∷ l) y (inl (inl e)) = inl e
-snoc-has x (z ∷ l) y (inl (inr h)) = inr (snoc-has x l y (inl h))
-snoc-has x (z ∷ l) y (inr e) = inr (snoc-has x l y (inr e))
-
-apart-snoc : (l : List ℕ) (y : ℕ) → Apart l → ¬ Has y l → Apart (l ++ (y ∷ []))
-apart-snoc [] y a n = (λ h. h, tt)
-apart-snoc (z ∷ l) y a n = (λ h. ⊎-elim (a .0) (λ e. n (inl (sym e))) (has-snoc z l y h), apart-snoc l y (a .1) (λ h. n (inr h)))
-
 -- ---- opening
-
-at-zeros : (m j : ℕ) → at (replicate m 0) j ≡ 0
-at-zeros m zero = refl
-at-zeros zero (suc j) = refl
-at-zeros (suc m) (suc zero) = refl
-at-zeros (suc m) (suc (suc j)) = at-zeros m (suc j)
 
 module _ (n k : ℕ) (N : Edge 50 n) (K : Edge 32 k) where
   some : 0 < k

@@ -9,11 +9,11 @@ use native.Mathlib.Omega.{arith}
 use lib.Dec.{eqb, leb}
 use Rattle.lists.specs.Ranges.{Edge}
 use Rattle.lists.proofs.Tests.{same?, lt?, eqb-eq, eqb-true, le-true, leb-true}
-use Rattle.lists.proofs.Ranges.{every-true, true-every}
+use Rattle.lists.proofs.Ranges.{every-true, true-every, tally-most}
 use Rattle.diagrams.specs.Diagram.{Maps}
 use Rattle.diagrams.proofs.Diagrams.{black-one-one, white-one-one}
 use Rattle.cycles.specs.Cycles.{Perm, after, Same, seek, least, cycles, period, fixes, around}
-use Rattle.cycles.proofs.Tallies.{tally-le, tally-most, tally-all}
+use Rattle.cycles.proofs.Tallies.{tally-le, tally-all}
 use Rattle.cycles.proofs.Searches.{First, seek-first}
 
 -- ---- bounds

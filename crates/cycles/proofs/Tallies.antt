@@ -14,14 +14,6 @@ use Rattle.lists.proofs.Lists.{pigeons}
 
 -- ---- tally
 
-pub tally-most : (n : ℕ) (t : ℕ → Bool) → tally n t ≤ n
-tally-most zero t = omega arith
-tally-most (suc n) t = go (t (suc n)) (tally-most n t)
-  where
-    go : (b : Bool) → tally n t ≤ n → pick b 1 0 + tally n t ≤ suc n
-    go true h = omega arith
-    go false h = omega arith
-
 pub tally-all : (n : ℕ) → tally n (λ x. true) ≡ n
 tally-all zero = refl
 tally-all (suc n) = let h = tally-all n in omega arith

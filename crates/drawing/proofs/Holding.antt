@@ -4,9 +4,8 @@ use mathlib.Core.List.{List}
 use Prim.Native.Nat.{ℕ, _≤_}
 use native.Mathlib.Omega.{arith}
 use lib.ListN.{length, drop}
-use Rattle.lists.specs.Ranges.{Edge, down}
-use Rattle.lists.proofs.Lists.{pigeons}
-use Rattle.lists.proofs.Ranges.{has-down, length-down}
+use Rattle.lists.specs.Ranges.{Edge}
+use Rattle.lists.proofs.Ranges.{edges-few}
 use Rattle.words.specs.Outputs.{over}
 use Rattle.words.proofs.Growing as growing
 use Rattle.writing.specs.Midway.{Piled, Holds}
@@ -14,7 +13,7 @@ use Rattle.drawing.proofs.Lists.{all-of, begins}
 
 -- there are no more labels pending than given
 pub low : (st s0 s1 : List ℕ) → growing.State st s0 s1 → length st ≤ length s0
-low st s0 s1 s = let i = pigeons st (down (length s0)) (s .apart) (λ x h. has-down (length s0) x (s .within x h)) in let j = length-down (length s0) in omega arith
+low st s0 s1 s = edges-few (length s0) st (s .apart) (s .within)
 
 pub holds-of : (st s0 s1 a0 a1 pile b0 b1 : List ℕ) (used : ℕ) → growing.State st s0 s1 → length pile ≡ 64 → Piled pile st → used ≡ length s0 → b0 ≡ over s0 a0 → b1 ≡ over s1 a1
     → Holds st s0 s1 a0 a1 pile b0 b1 used

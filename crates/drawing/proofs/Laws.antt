@@ -13,12 +13,13 @@ use Rattle.lists.specs.Ranges.{Edge}
 use Rattle.lists.proofs.Tests.{same?}
 use Rattle.lists.proofs.Lists.{length-cut, length-put, length-1, length-3}
 use Rattle.words.specs.Word.{Pair, spells, spell}
+use Rattle.words.proofs.Outputs.{over-length}
 use Rattle.words.proofs.Growing.{none≢some, p-in}
 use Rattle.words.proofs.Growing as growing
 use Rattle.words.proofs.Shape.{grows, spells-word, word-length}
 use Rattle.writing.specs.States.{State, top, after, moved, opening, begun}
 use Rattle.writing.specs.Midway.{Room, Holds, Midway}
-use Rattle.writing.proofs.Lists.{over-length, next-item}
+use Rattle.writing.proofs.Lists.{next-item}
 use Rattle.writing.proofs.Laws.{pending-some, word-some}
 use Rattle.writing.proofs.Laws as laws
 use Rattle.writing.proofs.States.{Goes, Sound, popped-first, jump-deep, begun-good, begun-more, begun-one}

@@ -6,11 +6,11 @@ use Prim.Native.Nat.{ℕ, zero, suc, _+_, _-_, _≤_, _<_}
 use native.Mathlib.Nat.{not-suc-le-zero}
 use native.Mathlib.Omega.{arith}
 use lib.ListN.{length, getD, set, length-set}
-use lib.Seq.{drop-append-seam, set-append-left, set-getD, set-set, set-comm, getD-set-same, getD-set-other}
+use lib.Seq.{drop-append-seam, set-getD, set-set, set-comm, getD-set-same, getD-set-other}
 use Rattle.lists.specs.Lists.{at, put, cut, Has, All}
 use Rattle.lists.specs.Ranges.{Edge}
 use Rattle.lists.proofs.Tests.{same?}
-use Rattle.lists.proofs.Lists.{length-cut, length-put}
+use Rattle.lists.proofs.Lists.{length-cut, length-put, at-place, put-place, put-left}
 use Rattle.words.specs.Outputs.{over}
 use Rattle.writing.specs.Midway.{Piled, Shifted}
 use Rattle.writing.proofs.Lists.{piled-same}
@@ -37,25 +37,13 @@ put-back s k c e = put-put s k c k ∙ put-own s k e
 pub parted : (s : List ℕ) (k p : ℕ) → at s k ≡ k → at s p ≡ p → p ≢ k → put (put (put (put s k p) p k) p p) k k ≡ s
 parted s k p e f n = rw (put-put (put s k p) p k p, put-comm s k p p p n, put-own s p f) (put-back s k p e)
 
-pub put-left : (s t : List ℕ) (k v : ℕ) → Edge (length s) k → put (s ++ t) k v ≡ put s k v ++ t
-put-left s t zero v e = absurd (omega arith)
-put-left s t (suc k) v e = set-append-left s t k v (e .1)
-
-pub set-put : (s : List ℕ) (k v : ℕ) → 1 ≤ k → set s (k - 1) v ≡ put s k v
-set-put s zero v l = absurd (omega arith)
-set-put s (suc k) v l = let q : suc k - 1 ≡ k = omega arith in rw q
-
-pub at-getD : (s : List ℕ) (k : ℕ) → 1 ≤ k → at s k ≡ getD s (k - 1) 0
-at-getD s zero l = absurd (omega arith)
-at-getD s (suc k) l = let q : suc k - 1 ≡ k = omega arith in rw q
-
 -- the code's view: w is k, and v its partner, as indices
 module _ (s : List ℕ) (k w v : ℕ) (e : w ≡ k) (f : v ≡ getD s (w - 1) 0) (i : Edge 64 k) (j : Edge 64 (at s k)) where
   abbrev r : ℕ
   r = getD s (w - 1) 0
 
   r-is : r ≡ at s k
-  r-is = rw e (sym (at-getD s k (i .0)))
+  r-is = rw e (at-place s k (i .0))
 
   pub partner-in : Edge 64 v
   partner-in = rw (f, r-is) j
@@ -65,7 +53,7 @@ module _ (s : List ℕ) (k w v : ℕ) (e : w ≡ k) (f : v ≡ getD s (w - 1) 0)
     r-is,
     ap (λ (x : ℕ). set (set s (x - 1) r) (w - 1) k) f
         ∙ ap (λ (y : ℕ). set (set s (r - 1) r) (y - 1) k) e
-        ∙ rw (set-put s r r (rw r-is (j .0)), set-put (put s r r) k k (i .0)),
+        ∙ rw (put-place s r r (rw r-is (j .0)), put-place (put s r r) k k (i .0)),
   )
 
 -- ---- what a list begins with
@@ -79,7 +67,7 @@ begins-less s t u b e = begins s (t ++ u) b (e ∙ append-assoc s t u)
 -- the entry of k put back, and what was given after s
 pub begins-back : (s t u b : List ℕ) (k c : ℕ) → Edge (length s) k → at s k ≡ k → b ≡ (put s k c ++ t) ++ u → set b (k - 1) k ≡ over s (set b (k - 1) k)
 begins-back s t u b k c i e f = begins s (t ++ u) (set b (k - 1) k)
-    (rw (set-put b k k (i .0), f, append-assoc, put-left (put s k c) (t ++ u) k k (rw length-put i), put-back s k c e))
+    (rw (put-place b k k (i .0), f, append-assoc, put-left (put s k c) (t ++ u) k k (rw length-put i), put-back s k c e))
 
 pub begins-parted : (s u b : List ℕ) (k p : ℕ) → Edge (length s) k → Edge (length s) p → at s k ≡ k → at s p ≡ p → p ≢ k → b ≡ put (put s k p) p k ++ u
     → put (put b p p) k k ≡ over s (put (put b p p) k k)

@@ -1,6 +1,6 @@
 -- The numbers of the run that a listing leaves: they fit 16 bits, and its size is the one that it had.
-use mathlib.Core.Path.{_≡_, refl, sym, _∙_, ap}
-use mathlib.Core.Logic.{_⊎_, inl, inr}
+use mathlib.Core.Path.{_≡_, refl, _∙_, ap}
+use mathlib.Core.Logic.{inl, inr}
 use mathlib.Core.List.{List, _∷_}
 use Prim.Native.Nat.{ℕ, zero, suc, _+_, _≤_}
 use native.Mathlib.Omega.{arith}
@@ -9,11 +9,11 @@ use Rattle.lists.specs.Ranges.{Edge}
 use Rattle.counting.specs.Listing.{count}
 use Rattle.positions.proofs.Answers.{at-length}
 use Rattle.running.specs.declared.Run.{Run}
-use Rattle.running.specs.Promises.{Stands, Over, given, finished}
+use Rattle.running.specs.Promises.{Stands, Over, given}
+use Rattle.running.proofs.Standing.{stands-size}
 use Rattle.listing.specs.Promises.{Leaves, Lists}
 use Rattle.listing.specs.declared.Listing.the-variants.{Rows}
 use Rattle.layout.specs.Layout.{run-of, run-numbers}
-use Rattle.kaldvemir.proofs.Stepped.{stands-size, over-size}
 
 pub record Fitting (l : List ℕ) (next : Run) : Type 0 where
   pub stage-small : next .stage ≤ 2

@@ -1,22 +1,14 @@
 -- The numbers of the run that a step leaves: its size is the one that it had.
-use mathlib.Core.Path.{_≡_, refl, sym, _∙_, ap}
+use mathlib.Core.Path.{_≡_, refl, ap}
 use mathlib.Core.Logic.{_⊎_, inl, inr}
 use mathlib.Core.List.{List, _∷_}
-use Prim.Native.Nat.{ℕ, zero, suc}
+use Prim.Native.Nat.{ℕ, suc}
 use lib.ListN.{length, getD}
-use Rattle.counting.specs.Listing.{count}
 use Rattle.counting.specs.Position.{wordAt}
-use Rattle.words.specs.Outputs.{Short}
 use Rattle.running.specs.declared.Run.{Run}
 use Rattle.running.specs.Promises.{Stands, Over, given, finished}
+use Rattle.running.proofs.Standing.{stands-size}
 use Rattle.layout.specs.Layout.{run-of, run-numbers}
-
-given-size : (n p : ℕ) → given n p .size ≡ n
-given-size n zero = refl
-given-size n (suc p) = refl
-
-pub stands-size : (n p : ℕ) (run : Run) → Stands n p run → run .size ≡ n
-stands-size n p run S = ap (λ (r : Run). r .size) (S .is) ∙ given-size n p
 
 pub over-size : (n : ℕ) (run : Run) → Over n run → run .size ≡ n
 over-size n run O = ap (λ (r : Run). r .size) (O .is)

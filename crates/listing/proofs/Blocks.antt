@@ -1,19 +1,17 @@
 -- The diagrams of a block: how long their lists are together.
 use mathlib.Core.Path.{_≡_, refl, sym, ap, _∙_}
-use mathlib.Core.Logic.{_⊎_, inl, inr}
 use mathlib.Core.Option.{some}
-use mathlib.Core.List.{List, [], _∷_}
+use mathlib.Core.List.{List}
 use Prim.Native.Nat.{ℕ, zero, suc, _+_, _*_, _≤_, _<_}
 use native.Mathlib.Nat.{zero-mul, suc-mul, mul-le-mul-right}
 use native.Mathlib.Omega.{arith}
-use lib.ListN.{length, length-append, List·getD-eq-default}
+use lib.ListN.{length, length-append}
 use Rattle.lists.proofs.Lists.{length-1}
-use Rattle.lists.proofs.Tests.{lt?}
 use Rattle.words.specs.Word.{spell}
 use Rattle.words.specs.Shape.{Word}
 use Rattle.words.proofs.Shape.{word-spells, word-length}
 use Rattle.words.proofs.Spelled.{spelled-lengths}
-use Rattle.counting.specs.Listing.{listing, count}
+use Rattle.counting.specs.Listing.{count}
 use Rattle.counting.specs.Position.{wordAt}
 use Rattle.counting.specs.Diagrams.{diagramOf, diagramAt}
 use Rattle.succession.proofs.Places.{word-at}
@@ -75,28 +73,3 @@ module _ (n p : ℕ) where
   unfolding lengths
   lengths-length zero = refl
   lengths-length (suc k) = rw length-1 (ap suc (lengths-length k))
-
--- ---- the word after position p
-
-pub past-none : (n p : ℕ) → count n ≤ p → wordAt n (suc p) ≡ []
-unfolding wordAt count
-past-none n p l = List·getD-eq-default (listing n) [] l
-
-not-word : (n : ℕ) (u : List ℕ) → length u ≡ 0 → ¬ Word n u
-not-word n [] z a = a
-not-word n (x ∷ u) z a = omega arith
-
-module _ (n p : ℕ) (l : p ≤ count n) where
-  pub ended : length (wordAt n (suc p)) ≡ 0 → p ≡ count n
-  ended z = go (lt? p (count n))
-    where
-      go : (p < count n) ⊎ (count n ≤ p) → p ≡ count n
-      go (inl h) = absurd (not-word n (wordAt n (suc p)) z (word-at n p h))
-      go (inr h) = omega arith
-
-  pub goes-on : ¬ (length (wordAt n (suc p)) ≡ 0) → p < count n
-  goes-on z = go (lt? p (count n))
-    where
-      go : (p < count n) ⊎ (count n ≤ p) → p < count n
-      go (inl h) = h
-      go (inr h) = absurd (z (rw (past-none n p h)))

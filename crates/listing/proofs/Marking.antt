@@ -8,13 +8,12 @@ use native.Mathlib.Numerals.{add-one}
 use native.Mathlib.Omega.{arith}
 use lib.ListN.{length, take, drop, getD, set, length-append, length-set, List·getD-append}
 use lib.Seq.{take-append-seam, drop-append-seam, getD-append-seam}
-use Rattle.lists.specs.Ranges.{Edge}
 use Rattle.lists.proofs.Lists.{length-1}
 use Rattle.lists.proofs.Tests.{lt?}
 use Rattle.diagrams.specs.Check.{Accepts}
 use Rattle.words.specs.Word.{Pair}
 use Rattle.words.specs.Shape.{Word}
-use Rattle.words.specs.Outputs.{over}
+use Rattle.words.proofs.Outputs.{over-one}
 use Rattle.labelling.specs.Labelling.{wordOf}
 use Rattle.labelling.specs.Rootings.{Kept}
 use Rattle.labelling.proofs.OfLists.{spelled-wordOf, spelled-accepted}
@@ -22,11 +21,10 @@ use Rattle.labelled.specs.Scratch.{Ready}
 use Rattle.canonical.specs.Among.{NoneBefore}
 use Rattle.counting.specs.Listing.{count}
 use Rattle.counting.specs.Position.{wordAt}
-use Rattle.counting.specs.Diagrams.{diagramOf, diagramAt}
+use Rattle.counting.specs.Diagrams.{diagramAt}
 use Rattle.succession.proofs.Places.{word-at}
 use Rattle.listing.specs.Rows.{blacks, whites, flatWords, lengths, MarkOf, Marks}
 use Rattle.listing.specs.Filling.{Holds, Marked}
-use Rattle.listing.proofs.Parts.{over-length, over-one}
 use Rattle.listing.proofs.Blocks.{spelled-of, black-length, white-length, rows-more, blacks-length, whites-length, lengths-length}
 
 -- ---- one part of parts that stand one after another
@@ -186,7 +184,7 @@ marked-more n p i am bm x h M a =
     rw add-one record {
       marks = M .marks ++ (x ∷ []);
       are = marks-more n p i (M .marks) x (M .are) a;
-      written = over-one (M .marks) am bm i (sym z) (M .written) x (omega arith);
+      written = ap (λ (b : List ℕ). set b i x) (M .written) ∙ over-one (M .marks) am i x (sym z) h;
     }
 
 -- i rows are marked

@@ -1,17 +1,17 @@
 -- A block while its rows are written: what holds before each row, and what the promise of `list` says after the last.
 use mathlib.Core.Path.{_≡_, refl, sym, ap, _∙_}
 use mathlib.Core.Logic.{_≢_, _⊎_, inl, inr}
-use mathlib.Core.List.{List, [], _∷_}
+use mathlib.Core.List.{List, []}
 use Prim.Native.Nat.{ℕ, zero, suc, _+_, _*_, _≤_, _<_}
 use native.Mathlib.Nat.{zero-mul, add-zero, add-suc, mul-le-mul-right}
 use native.Mathlib.Numerals.{add-one}
 use native.Mathlib.Omega.{arith}
-use lib.ListN.{length, take, length-append}
+use lib.ListN.{length, take, set, length-append}
 use lib.Seq.{take-append-seam}
 use Rattle.lists.specs.Ranges.{Edge}
-use Rattle.lists.proofs.Tests.{lt?, same?}
+use Rattle.lists.proofs.Tests.{same?}
 use Rattle.words.specs.Shape.{Word}
-use Rattle.words.specs.Outputs.{over}
+use Rattle.words.proofs.Outputs.{over-length, over-one}
 use Rattle.words.proofs.Shape.{word-spells, word-length}
 use Rattle.counting.specs.Listing.{count}
 use Rattle.counting.specs.Position.{wordAt}
@@ -25,13 +25,14 @@ use Rattle.succession.proofs.Places.{word-at, following-at}
 use Rattle.drawing.specs.Drawn.{Listed, Long, Drawn, Shares}
 use Rattle.drawing.proofs.Laws.{drawn-whole}
 use Rattle.running.specs.declared.Run.{Run}
-use Rattle.running.specs.Promises.{given, finished, Stands}
+use Rattle.running.specs.Promises.{finished, Stands}
+use Rattle.running.proofs.Standing.{ended, goes-on}
 use Rattle.running.proofs.Giving.{held-length, held-within, held-word, held-at}
 use Rattle.listing.specs.Rows.{blacks, whites, flatWords, lengths}
 use Rattle.listing.specs.Filling.{Room, Begin, Row}
 use Rattle.listing.specs.Promises.{runOf, ShortRows, Block, Gave}
-use Rattle.listing.proofs.Parts.{over-length, over-more, over-one}
-use Rattle.listing.proofs.Blocks.{spelled-of, black-length, rows-more, rows-within, blacks-length, whites-length, words-length, lengths-length, ended, goes-on}
+use Rattle.listing.proofs.Parts.{over-more}
+use Rattle.listing.proofs.Blocks.{spelled-of, black-length, rows-more, rows-within, blacks-length, whites-length, words-length, lengths-length}
 
 -- the word that a run is at, [] where it is fresh, is the beginning of its items
 pub stands-word : (n q stage len : ℕ) (items : List ℕ) → Stands n q (runOf n stage len items) → (take len items ≡ wordAt n q) × (len ≤ length items)
@@ -52,11 +53,7 @@ long-rows : (n rows : ℕ) (a0 a1 aw al : List ℕ) → ¬ ShortRows n rows a0 a
 long-rows n rows a0 a1 aw al k = (by _ _ (λ l. k (inl l)), by _ _ (λ l. k (inr (inl l))), by _ _ (λ l. k (inr (inr (inl l)))), by _ _ (λ l. k (inr (inr (inr l)))))
   where
     by : (m l : ℕ) → ¬ (l < m) → m ≤ l
-    by m l k = go (lt? l m)
-      where
-        go : (l < m) ⊎ (m ≤ l) → m ≤ l
-        go (inl a) = absurd (k a)
-        go (inr a) = a
+    by m l k = omega arith
 
 -- the lists that drawing needs: before the first row anything, then the drawing of the last row's word
 pub record Sketched (i : ℕ) (w pile popped d0 d1 : List ℕ) (used height : ℕ) : Type 0 where
@@ -256,6 +253,6 @@ module _ {run : Run} {rows : ℕ} {a0 a1 aw al : List ℕ} {stage : ℕ} {items 
               s0-written = R .s0-is ∙ over-more (blacks n p i) a0 b0 at (omega arith) (M .written .s0-written) (diagramOf w .black) (omega arith);
               s1-written = R .s1-is ∙ over-more (whites n p i) a1 b1 at (omega arith) (M .written .s1-written) (diagramOf w .white) (omega arith);
               words-written = R .words-is ∙ over-more (flatWords n p i) aw bw place (M .place-is) (M .written .words-written) w (omega arith);
-              lengths-written = R .lengths-is ∙ over-one (lengths n p i) al bl i (sym kl) (M .written .lengths-written) (length w) (omega arith);
+              lengths-written = R .lengths-is ∙ ap (λ (b : List ℕ). set b i (length w)) (M .written .lengths-written) ∙ over-one (lengths n p i) al i (length w) (sym kl) (omega arith);
             };
           }

@@ -1,22 +1,16 @@
 -- A block that was written is one whose rows can be marked, and marked it is what `list_marked` promises.
-use mathlib.Core.Path.{_≡_, refl, sym, ap, _∙_}
-use mathlib.Core.Logic.{_⊎_, inl, inr}
+use mathlib.Core.Logic.{inl, inr}
 use mathlib.Core.List.{List}
-use Prim.Native.Nat.{ℕ, zero, suc, _+_, _≤_, _<_}
+use Prim.Native.Nat.{ℕ, _+_, _≤_}
 use native.Mathlib.Omega.{arith}
 use lib.ListN.{length, drop}
 use Rattle.counting.specs.Listing.{count}
 use Rattle.running.specs.declared.Run.{Run}
-use Rattle.running.specs.Promises.{Stands}
+use Rattle.running.proofs.Standing.{stands-size}
 use Rattle.listing.specs.Rows.{blacks, whites, flatWords, lengths}
 use Rattle.listing.specs.Filling.{Holds, Marked}
 use Rattle.listing.specs.Promises.{Leaves, Gave, GaveMarked, Lists, ListsMarked}
 use Rattle.listing.specs.declared.Listing.the-variants.{Rows}
-
--- the size is the run's
-stands-size : (n p : ℕ) (run : Run) → Stands n p run → run .size ≡ n
-stands-size n zero run T = ap (λ (r : Run). r .size) (T .is)
-stands-size n (suc p) run T = ap (λ (r : Run). r .size) (T .is)
 
 leaves-within : (n p rows k : ℕ) (next : Run) → Leaves n p rows k next → (p + k ≤ count n) × (k ≤ rows)
 leaves-within n p rows k next (inl l) = let a = l .0 in (l .1, omega arith)

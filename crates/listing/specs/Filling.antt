@@ -13,10 +13,9 @@ use Prim.Native.Nat.{ℕ, _+_, _≤_, _<_}
 use lib.ListN.{length, take, set}
 use Rattle.lists.specs.Ranges.{Edge}
 use Rattle.words.specs.Shape.{Word}
-use Rattle.words.specs.Outputs.{over}
+use Rattle.words.specs.Outputs.{over, from}
 use Rattle.counting.specs.Listing.{count}
 use Rattle.counting.specs.Diagrams.{diagramOf}
-use Rattle.walking.specs.Walk.{from}
 use Rattle.listing.specs.Rows.{blacks, whites, flatWords, lengths, Marks}
 
 pub record Room (n : ℕ) (w : List ℕ) (at place i : ℕ) (a0 a1 aw al : List ℕ) : Type 0 where

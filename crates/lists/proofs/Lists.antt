@@ -8,7 +8,7 @@ use native.Mathlib.Nat.{not-suc-le-zero, le-of-suc-le-suc}
 use native.Mathlib.Omega.{arith}
 use lib.Dec.{eqb}
 use lib.ListN.{length, getD, set, take, drop, replicate, length-set, length-append, List·getD-append}
-use lib.Seq.{getD-set-same, getD-set-other, getD-append-add, take-all}
+use lib.Seq.{getD-set-same, getD-set-other, getD-append-add, set-append-left, take-all}
 use Rattle.lists.specs.Lists.{pick, at, put, listed, Has, Apart, All, has, find, cut}
 use Rattle.lists.specs.Ranges.{Edge}
 use Rattle.lists.proofs.Tests.{eqb-same, eqb-ne, same?}
@@ -140,6 +140,10 @@ pub at-left : (s t : List ℕ) (j : ℕ) → j ≤ length s → at (s ++ t) j �
 at-left s t zero h = refl
 at-left s t (suc j) h = List·getD-append s t 0 j h
 
+pub put-left : (s t : List ℕ) (k v : ℕ) → Edge (length s) k → put (s ++ t) k v ≡ put s k v ++ t
+put-left s t zero v e = absurd (omega arith)
+put-left s t (suc k) v e = set-append-left s t k v (e .1)
+
 pub at-right : (s t : List ℕ) (j i : ℕ) → j ≡ suc (length s + i) → at (s ++ t) j ≡ getD t i 0
 at-right s t zero i e = absurd (omega arith)
 at-right s t (suc j) i e = rw inj (getD-append-add s t i 0)
@@ -190,6 +194,10 @@ at-listed f (suc n) x e = go (same? x (suc n)) (at-listed f n x)
 -- the elements after the first, as the code hands them on: a part of the list
 pub rest-is : (x : ℕ) (s : List ℕ) → take (length (x ∷ s) - 1) (drop 1 (x ∷ s)) ≡ s
 rest-is x s = take-all (length (x ∷ s) - 1) s (omega arith)
+
+pub length-0 : (s : List ℕ) → length s ≡ 0 → s ≡ []
+length-0 [] e = refl
+length-0 (x ∷ s) e = absurd (omega arith)
 
 pub length-1 : (s : List ℕ) (a : ℕ) → length (s ++ (a ∷ [])) ≡ suc (length s)
 length-1 s a = simp length-append (omega arith)

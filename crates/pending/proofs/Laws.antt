@@ -10,10 +10,10 @@ use native.Mathlib.Omega.{arith}
 use lib.ListN.{length, getD, set, drop, replicate, length-set, length-replicate}
 use lib.Seq.{getD-set-same, getD-set-other, lt-length-set}
 use Rattle.lists.specs.Lists.{Has, Apart, All, find, cut}
-use Rattle.lists.specs.Ranges.{Edge, down}
-use Rattle.lists.proofs.Lists.{has-getD, find-lt, getD-find, find-getD, cut-has, apart-cut, all-cut, all-has, pigeons}
+use Rattle.lists.specs.Ranges.{Edge}
+use Rattle.lists.proofs.Lists.{has-getD, find-lt, getD-find, find-getD, cut-has, apart-cut, all-cut, all-has}
 use Rattle.lists.proofs.Tests.{lt?}
-use Rattle.lists.proofs.Ranges.{has-down, length-down}
+use Rattle.lists.proofs.Ranges.{edges-few}
 use Rattle.pending.specs.Ring.{Linked, Ring}
 
 -- ---- linked lists
@@ -123,9 +123,6 @@ ring-empty = record {
   links = (refl, refl);
 }
 
-few : (n : ℕ) (s : List ℕ) → Apart s → ((x : ℕ) → Has x s → Edge n x) → length s ≤ n
-few n s a e = rw length-down at (pigeons s (down n) a (λ x h. has-down n x (e x h)))
-
 module _ (nx pv s : List ℕ) (r : Ring nx pv s) where
   -- the labels are 1 to 1,024
   pub ring-labels : (l : ℕ) → Has l s → Edge 1024 l
@@ -133,7 +130,7 @@ module _ (nx pv s : List ℕ) (r : Ring nx pv s) where
 
   -- at most 1,024 are pending
   pub ring-few : length s ≤ 1024
-  ring-few = few 1024 s (r .once .1) ring-labels
+  ring-few = edges-few 1024 s (r .once .1) ring-labels
 
   -- the sentinel's link is the top
   pub ring-top : getD nx 0 0 ≡ getD s 0 0

@@ -1,34 +1,23 @@
 -- A word that is held in 51 places: its beginning is the word, and what is written from it is the diagram that it spells, the word and the run.
 use mathlib.Core.Path.{_≡_, ap, _∙_}
-use mathlib.Core.Logic.{_⊎_, inl, inr}
 use mathlib.Core.Option.{some}
 use mathlib.Core.List.{List, _++_}
-use Prim.Native.Nat.{ℕ, suc, _-_, _≤_, _<_}
+use Prim.Native.Nat.{ℕ, suc, _-_, _≤_}
 use native.Mathlib.Omega.{arith}
 use lib.Dec.{leb}
 use lib.ListN.{length, take, drop, replicate, length-append}
 use lib.Seq.{take-append-seam}
 use Rattle.lists.specs.Lists.{pick}
-use Rattle.lists.proofs.Tests.{lt?, le-true}
+use Rattle.lists.proofs.Tests.{le-true}
 use Rattle.words.specs.Word.{spell, Spells}
 use Rattle.words.specs.Shape.{Word}
-use Rattle.words.specs.Outputs.{over, Short}
+use Rattle.words.specs.Outputs.{over}
 use Rattle.words.proofs.Shape.{word-spells, word-length}
 use Rattle.counting.specs.Diagrams.{diagramOf}
 use Rattle.succession.specs.declared.Held.{Held}
 use Rattle.succession.specs.Succession.{padded, held}
 use Rattle.running.specs.declared.Run.{Run}
 use Rattle.running.specs.Promises.{at}
-
-pub long-enough : (n : ℕ) (a0 a1 aw : List ℕ) → ¬ Short n a0 a1 aw → (n ≤ length a0) × (n ≤ length a1) × (suc n ≤ length aw)
-long-enough n a0 a1 aw k = (by n (length a0) (λ l. k (inl l)), by n (length a1) (λ l. k (inr (inl l))), by (suc n) (length aw) (λ l. k (inr (inr l))))
-  where
-    by : (m l : ℕ) → ¬ (l < m) → m ≤ l
-    by m l k = go (lt? l m)
-      where
-        go : (l < m) ⊎ (m ≤ l) → m ≤ l
-        go (inl a) = absurd (k a)
-        go (inr a) = a
 
 module _ (n : ℕ) (w : List ℕ) (next : Held) (e : next ≡ held w) (a : Word n w) where
   pub held-length : next .length ≡ length w

@@ -1,13 +1,14 @@
 -- A run's fields are those of a sound run exactly if its tests say so.
-use mathlib.Core.Path.{_≡_, refl, sym, ap, _∙_}
+use mathlib.Core.Path.{_≡_, sym, ap, _∙_}
 use mathlib.Core.Logic.{_≢_, _⊎_, inl, inr}
-use mathlib.Core.List.{List, [], _∷_, _++_}
+use mathlib.Core.List.{List, [], _++_}
 use Prim.Native.Nat.{ℕ, _-_, _≤_}
 use native.Mathlib.Omega.{arith}
 use lib.ListN.{length, take, drop, replicate, length-append, length-drop, length-replicate, take-append-drop}
 use lib.Seq.{length-take-le, take-all, take-at, drop-at}
 use Rattle.lists.specs.Ranges.{Edge}
 use Rattle.lists.proofs.Tests.{same?}
+use Rattle.lists.proofs.Lists.{length-0}
 use Rattle.words.specs.Shape.{Word}
 use Rattle.running.specs.declared.Run.{Run}
 use Rattle.running.specs.Sound.{Staged, Sound}
@@ -32,15 +33,11 @@ staged-few stage n w (inr s) = few (s .0)
 
 module _ (stage n : ℕ) (w : List ℕ) (a : stage ≢ 1) where
   pub staged-none : stage ≤ 2 → length w ≡ 0 → Staged stage n w
-  staged-none b z = inr (go (same? stage 0), empty w z)
+  staged-none b z = inr (go (same? stage 0), length-0 w z)
     where
       go : (stage ≡ 0) ⊎ (stage ≢ 0) → (stage ≡ 0) ⊎ (stage ≡ 2)
       go (inl e) = inl e
       go (inr e) = inr (omega arith)
-
-      empty : (w : List ℕ) → length w ≡ 0 → w ≡ []
-      empty [] z = refl
-      empty (x ∷ w) z = absurd (omega arith)
 
   pub staged-empty : Staged stage n w → length w ≡ 0
   staged-empty (inl s) = absurd (a (s .0))

@@ -1,7 +1,7 @@
 -- A sound run stands at a position, or is finished; the word that follows its word stands at the next position, and there is none after the last.
 use mathlib.Core.Path.{_≡_, refl, sym, ap}
 use mathlib.Core.Logic.{_≢_, _⊎_, inl, inr}
-use mathlib.Core.List.{List, [], _∷_}
+use mathlib.Core.List.{List, []}
 use Prim.Native.Nat.{ℕ, zero, suc, _≤_, _<_}
 use native.Mathlib.Omega.{arith}
 use lib.ListN.{length, List·getD-eq-default}
@@ -12,6 +12,7 @@ use Rattle.counting.specs.Listing.{listing, count}
 use Rattle.counting.specs.Position.{wordAt}
 use Rattle.counting.specs.Diagrams.{diagramAt}
 use Rattle.succession.specs.Succession.{following, padded}
+use Rattle.succession.proofs.Forwards.{empty-not}
 use Rattle.succession.proofs.Places as places
 use Rattle.succession.proofs.Places.{word-at, word-stands, following-at}
 use Rattle.running.specs.declared.Run.{Run}
@@ -62,6 +63,11 @@ finished-over run S z = record { sized = S .sized; is = run-is run (run .size) 2
     e : S .word ≡ []
     e = none (S .word) (S .staged)
 
+-- the size is the run's
+pub stands-size : (n p : ℕ) (run : Run) → Stands n p run → run .size ≡ n
+stands-size n zero run T = ap (λ (r : Run). r .size) (T .is)
+stands-size n (suc p) run T = ap (λ (r : Run). r .size) (T .is)
+
 -- ---- and back
 
 pub over-sound : (n : ℕ) (run : Run) → Over n run → Sound run
@@ -77,6 +83,22 @@ past-none : (n p : ℕ) → count n ≤ p → wordAt n (suc p) ≡ []
 unfolding wordAt count
 past-none n p l = List·getD-eq-default (listing n) [] l
 
+-- there is none after position p exactly if p is the last
+module _ (n p : ℕ) (l : p ≤ count n) where
+  pub ended : length (wordAt n (suc p)) ≡ 0 → p ≡ count n
+  ended z = go (lt? p (count n))
+    where
+      go : (p < count n) ⊎ (count n ≤ p) → p ≡ count n
+      go (inl h) = absurd (empty-not n (wordAt n (suc p)) z (word-at n p h))
+      go (inr h) = omega arith
+
+  pub goes-on : ¬ (length (wordAt n (suc p)) ≡ 0) → p < count n
+  goes-on z = go (lt? p (count n))
+    where
+      go : (p < count n) ⊎ (count n ≤ p) → p < count n
+      go (inl h) = h
+      go (inr h) = absurd (z (rw (past-none n p h)))
+
 module _ (run : Run) (w : List ℕ) (T : Standing run w) where
   abbrev n : ℕ
   n = run .size
@@ -90,16 +112,8 @@ module _ (run : Run) (w : List ℕ) (T : Standing run w) where
   pub last-stands : length v ≡ 0 → Stands n (count n) run
   last-stands z = rw last at (T .stands)
     where
-      not-word : (u : List ℕ) → length u ≡ 0 → ¬ Word n u
-      not-word [] z a = a
-      not-word (x ∷ u) z a = omega arith
-
       last : T .place ≡ count n
-      last = go (lt? (T .place) (count n))
-        where
-          go : (T .place < count n) ⊎ (count n ≤ T .place) → T .place ≡ count n
-          go (inl l) = absurd (not-word (wordAt n (suc (T .place))) (rw (← next-is) z) (word-at n (T .place) l))
-          go (inr l) = let i = T .stands .within in omega arith
+      last = ended n (T .place) (T .stands .within) (rw (← next-is) z)
 
   pub record Next : Type 0 where
     pub more : T .place < count n
@@ -110,11 +124,7 @@ module _ (run : Run) (w : List ℕ) (T : Standing run w) where
   next-stands z = record { more = more; is = next-is; word = rw next-is (word-at n (T .place) more) }
     where
       more : T .place < count n
-      more = go (lt? (T .place) (count n))
-        where
-          go : (T .place < count n) ⊎ (count n ≤ T .place) → T .place < count n
-          go (inl l) = l
-          go (inr l) = absurd (z (rw (next-is, past-none n (T .place) l)))
+      more = goes-on n (T .place) (T .stands .within) (λ y. z (rw next-is y))
 
 -- ---- what a step promises, by its branches; the run is sound but for 34
 

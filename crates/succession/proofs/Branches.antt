@@ -8,6 +8,7 @@ use native.Mathlib.Numerals.{add-one}
 use native.Mathlib.Omega.{arith}
 use lib.ListN.{length, getD, take, length-append}
 use lib.Seq.{length-take-le}
+use Rattle.lists.proofs.Lists.{rest-is}
 use Rattle.words.specs.Shape.{Word}
 use Rattle.words.proofs.Shape.{word-length}
 use Rattle.succession.specs.Succession.{start, ends, ending, raised, onward, first, root-above, following}
@@ -15,7 +16,7 @@ use Rattle.succession.specs.Reading.{Raises}
 use Rattle.succession.proofs.Levels.{start-word}
 use Rattle.succession.proofs.Endings.{ending-least}
 use Rattle.succession.proofs.Follows.{words-follow, cons-not}
-use Rattle.succession.proofs.Forwards.{rest, rest-is}
+use Rattle.succession.proofs.Forwards.{rest}
 
 -- a word of at most 50 edges has room
 pub rooted-room : (n x : ℕ) → n ≤ 50 → ends (start n x .height) (start n x .free) ≡ true → 1 + length (ending (start n x .height) (start n x .free)) ≤ 51

@@ -8,8 +8,9 @@ use native.Mathlib.Numerals.{add-one}
 use native.Mathlib.Omega.{arith}
 use lib.Dec.{eqb}
 use lib.ListN.{length, getD, take, drop, drop-of-length-le}
-use lib.Seq.{drop-cons, take-length}
+use lib.Seq.{drop-cons}
 use Rattle.lists.proofs.Tests.{eqb-true, eqb-false}
+use Rattle.lists.proofs.Lists.{rest-is}
 use Rattle.words.specs.Shape.{Fits, Word}
 use Rattle.succession.specs.declared.Level.{Level}
 use Rattle.succession.specs.Succession.{after, start}
@@ -53,9 +54,6 @@ module _ (h₀ f₀ : ℕ) (w : List ℕ) (i h f : ℕ) (R : Forth h₀ f₀ w i
 -- the items after the first, as a part of the list
 abbrev pub rest : List ℕ → List ℕ
 rest w = take (length w - 1) (drop 1 w)
-
-pub rest-is : (x : ℕ) (w : List ℕ) → rest (x ∷ w) ≡ w
-rest-is x w = let e : suc (length w) - 1 ≡ length w = omega arith in rw (e, take-length)
 
 pub start-small : (n x : ℕ) → n ≤ 50 → start n x .height + start n x .free ≤ 50
 start-small zero zero l = omega arith

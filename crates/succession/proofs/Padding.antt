@@ -10,7 +10,7 @@ use lib.Seq.{set-append-seam, length-take-le, take-at}
 use lib.Dec.{leb}
 use Rattle.lists.specs.Lists.{pick}
 use Rattle.lists.proofs.Tests.{le-true}
-use Rattle.lists.proofs.Lists.{length-1}
+use Rattle.lists.proofs.Lists.{length-1, drop-zeros}
 use Rattle.succession.specs.declared.Level.{Level}
 use Rattle.succession.specs.declared.Held.{Held}
 use Rattle.succession.specs.declared.Next.{Next}
@@ -25,14 +25,9 @@ padded-more p x l =
     let e : 51 - length p ≡ suc (51 - suc (length p)) = omega arith in
     rw (e, set-append-seam p 0 (replicate (51 - suc (length p)) 0) x, length-1, append-assoc)
 
-drop-zeros : (k n : ℕ) → k ≤ n → drop {A = ℕ} k (replicate n 0) ≡ replicate (n - k) 0
-drop-zeros zero n l = let e : n - 0 ≡ n = omega arith in rw e
-drop-zeros (suc k) zero l = absurd (omega arith)
-drop-zeros (suc k) (suc n) l = let e : suc n - suc k ≡ n - k = omega arith in rw e (drop-zeros k n (omega arith))
-
 -- a beginning filled into zeros
 pub padded-over : (b items : List ℕ) → length b ≤ 51 → items ≡ pick (leb (length b) 51) (b ++ drop (length b) (replicate 51 0)) (replicate 51 0) → items ≡ padded b
-padded-over b items l e = e ∙ rw (le-true (length b) 51 l, drop-zeros (length b) 51 l)
+padded-over b items l e = e ∙ rw (le-true (length b) 51 l, drop-zeros 51 (length b) l)
 
 -- one item and then a list after it
 pub padded-both : (p v items : List ℕ) (x length′ : ℕ) → (items ≡ padded ((p ++ (x ∷ [])) ++ v)) × (length′ ≡ length ((p ++ (x ∷ [])) ++ v)) → (items ≡ padded (p ++ (x ∷ v))) × (length′ ≡ length (p ++ (x ∷ v)))

@@ -5,11 +5,11 @@ use mathlib.Core.Bool.{true, false}
 use mathlib.Core.Logic.{_≢_, _⊎_, inl, inr}
 use mathlib.Core.List.{List, [], _∷_, List·Memᴰ, List·Memᴰ·not-nil, List·Memᴰ·cases-cons}
 use Prim.Native.Nat.{ℕ, zero, suc, _+_, _≤_, _<_}
-use native.Mathlib.Nat.{not-suc-le-zero, le-of-suc-le-suc}
 use native.Mathlib.Omega.{arith}
 use lib.ListN.{length, getD, List·getD-eq-default}
 use Rattle.lists.specs.Lists.{All}
 use Rattle.lists.proofs.Tests.{lt?, same?}
+use Rattle.lists.proofs.Lists.{all-at}
 use Rattle.words.specs.Order.{Before}
 use Rattle.words.specs.Shape.{Fits, Word}
 use Rattle.words.proofs.Order.{before-irrefl, before-antisym}
@@ -17,23 +17,13 @@ use Rattle.counting.specs.Listing.{tails, listing, count, Sorted}
 use Rattle.counting.specs.Position.{wordAt}
 use Rattle.counting.proofs.Tails.{sound, complete, sorted}
 use Rattle.counting.proofs.Listing.{listing-sound, listing-complete, listing-sorted}
+use Rattle.counting.proofs.Positions.{sorted-at, at-word}
 use Rattle.succession.specs.Succession.{ends, ending, next, first, following}
 use Rattle.succession.proofs.Levels.{dead}
 use Rattle.succession.proofs.Endings.{ending-least}
 use Rattle.succession.proofs.Follows.{Follows, cons-not, ways-follow, words-follow, first-follows, first-not}
 
 -- ---- places of a list of words
-
-all-at : (P : List ℕ → Type 0) (ws : List (List ℕ)) (i : ℕ) → All P ws → i < length ws → P (getD ws i [])
-all-at P [] i a l = absurd (not-suc-le-zero l)
-all-at P (w ∷ ws) zero a l = a .0
-all-at P (w ∷ ws) (suc i) a l = all-at P ws i (a .1) (le-of-suc-le-suc l)
-
-sorted-at : (ws : List (List ℕ)) (i j : ℕ) → Sorted ws → i < j → j < length ws → Before (getD ws i []) (getD ws j [])
-sorted-at [] i j s l k = absurd (not-suc-le-zero k)
-sorted-at (w ∷ ws) i zero s l k = absurd (omega arith)
-sorted-at (w ∷ ws) zero (suc j) s l k = all-at (Before w) ws j (s .0) (le-of-suc-le-suc k)
-sorted-at (w ∷ ws) (suc i) (suc j) s l k = sorted-at ws i j (s .1) (omega arith) (le-of-suc-le-suc k)
 
 -- v stands in ws, at the place that the record names
 pub record Stands (v : List ℕ) (ws : List (List ℕ)) : Type 0 where
@@ -105,13 +95,12 @@ module _ (m h f : ℕ) where
   next-at l i k = next-place (Fits h f) (tails m h f) (sorted m h f) fit (λ v a. stands v (tails m h f) (complete m h f v l a)) i _ k (ways-follow (getD (tails m h f) i []) h f (fit i k))
     where
       fit : (j : ℕ) → j < length (tails m h f) → Fits h f (getD (tails m h f) j [])
-      fit j k = all-at (Fits h f) (tails m h f) j (sound m h f) k
+      fit j k = all-at (Fits h f) (tails m h f) j [] (sound m h f) k
 
 -- ---- positions of a size
 
 pub word-at : (n p : ℕ) → p < count n → Word n (wordAt n (suc p))
-unfolding wordAt count
-word-at n p l = all-at (Word n) (listing n) p (listing-sound n) l
+word-at n p l = at-word n (suc p) (omega arith, l)
 
 pub word-stands : (n : ℕ) (w : List ℕ) → Word n w → Stands w (listing n)
 word-stands n w a = stands w (listing n) (listing-complete n w a)
@@ -138,10 +127,10 @@ first-at n l = go (S .place) (S .within) (S .is)
     go : (j : ℕ) → j < length (listing n) → getD (listing n) j [] ≡ first n → first n ≡ getD (listing n) 0 []
     go zero k e = sym e
     go (suc j) k e =
-        let u = all-at (Word n) (listing n) 0 (listing-sound n) (omega arith) in
+        let u = all-at (Word n) (listing n) 0 [] (listing-sound n) (omega arith) in
         absurd (F .nearest (getD (listing n) 0 []) u (some (getD (listing n) 0 []) u) (rw e at (sorted-at (listing n) 0 (suc j) (listing-sorted n) (omega arith) k)))
 
 pub following-at : (n p : ℕ) → 1 ≤ n → p ≤ count n → following n (wordAt n p) ≡ wordAt n (suc p)
 unfolding following wordAt count
 following-at n zero l k = first-at n l
-following-at n (suc p) l k = next-place (Word n) (listing n) (listing-sorted n) (λ i q. all-at (Word n) (listing n) i (listing-sound n) q) (word-stands n) p _ k (words-follow n _ (word-at n p k))
+following-at n (suc p) l k = next-place (Word n) (listing n) (listing-sorted n) (λ i q. all-at (Word n) (listing n) i [] (listing-sound n) q) (word-stands n) p _ k (words-follow n _ (word-at n p k))

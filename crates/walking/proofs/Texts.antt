@@ -11,7 +11,6 @@ use Rattle.lists.specs.Lists.{pick}
 use Rattle.lists.proofs.Tests.{le-true}
 use Rattle.words.specs.Outputs.{from}
 use Rattle.words.proofs.Outputs.{from-part}
-pub use Rattle.words.proofs.Outputs.{from-0, from-from}
 use Rattle.counting.specs.Listing.{each}
 use Rattle.walking.specs.Walk.{text}
 

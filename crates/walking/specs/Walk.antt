@@ -8,7 +8,7 @@ use mathlib.Core.List.{List, [], _∷_, _++_}
 use Prim.Native.Nat.{ℕ, zero, suc, _+_, _*_, _≤_, _<_}
 use lib.ListN.{length, take}
 use Rattle.words.specs.Shape.{pre, less1, less3}
-unfoldable pub use Rattle.words.specs.Outputs.{from}
+use Rattle.words.specs.Outputs.{from}
 use Rattle.counting.specs.Listing.{tails}
 
 unfoldable pub rest : ℕ → ℕ → List (List ℕ)

@@ -1,5 +1,5 @@
 -- Laws of lists that are written to: entry by entry, one piece after another; which are long enough, and which stay as they were.
-use mathlib.Core.Path.{_≡_, refl}
+use mathlib.Core.Path.{_≡_, refl, sym}
 use mathlib.Core.Logic.{inl, inr, ⊎-elim}
 use mathlib.Core.List.{List, [], _∷_, _++_, append-assoc, append-nil}
 use Prim.Native.Nat.{ℕ, suc, _+_, _-_, _≤_, _<_}
@@ -9,8 +9,18 @@ use native.Mathlib.Omega.{arith}
 use borrow.Rule.Slice.PartMut.{midOf, putMid}
 use lib.ListN.{length, set, take, drop, length-append, length-drop, length-set, take-append-drop}
 use lib.Seq.{length-take-le, set-split, take-set-le, take-at, take-all, drop-set-lt, drop-cons, drop-length, drop-append-add, drop-drop, getD-set-same}
-use Rattle.lists.proofs.Tests.{lt?}
+use Rattle.lists.proofs.Lists.{length-1}
+use Rattle.lists.proofs.Copies.{written-more, written-length}
 use Rattle.words.specs.Outputs.{over, from, Short, Untouched}
+
+-- ---- writing over the beginning
+
+pub over-length : (x a : List ℕ) → length x ≤ length a → length (over x a) ≡ length a
+over-length x a l = written-length a x (length x) refl l
+
+-- one entry more
+pub over-one : (x a : List ℕ) (i v : ℕ) → i ≡ length x → i < length a → set (over x a) i v ≡ over (x ++ (v ∷ [])) a
+over-one x a i v e l = rw (length-1, ← e, ← add-one) (written-more a x i v (sym e) l)
 
 -- ---- writing from a place on
 
@@ -82,7 +92,7 @@ pub long-enough : (n : ℕ) (a0 a1 aw : List ℕ) → ¬ Short n a0 a1 aw → (n
 long-enough n a0 a1 aw k = (by n (length a0) (λ l. k (inl l)), by n (length a1) (λ l. k (inr (inl l))), by (suc n) (length aw) (λ l. k (inr (inr l))))
   where
     by : (m l : ℕ) → ¬ (l < m) → m ≤ l
-    by m l k = ⊎-elim (λ a. absurd (k a)) (λ a. a) (lt? l m)
+    by m l k = omega arith
 
 pub untouched : (a0 a1 aw : List ℕ) → Untouched a0 a1 aw a0 a1 aw
 untouched a0 a1 aw = record { s0-same = refl; s1-same = refl; word-same = refl }

@@ -7,18 +7,18 @@ use Prim.Native.Nat.{ℕ, zero, suc, _+_, _-_, _≤_, _<_}
 use native.Mathlib.Omega.{arith}
 use lib.Dec.{ltb}
 use lib.ListN.{length, getD, set, take, drop, length-set}
-use lib.Seq.{take-length}
 use Rattle.lists.specs.Lists.{put, cut}
 use Rattle.lists.specs.Ranges.{Edge}
 use Rattle.lists.proofs.Tests.{ltb-true}
-use Rattle.lists.proofs.Lists.{has-getD, all-has, all-map, all-cut, length-cut, length-put, length-1, length-3}
+use Rattle.lists.proofs.Lists.{has-getD, all-has, all-map, all-cut, length-cut, length-put, length-1, length-3, rest-is}
 use Rattle.words.specs.Word.{Pair, spells, spell, Spells}
 use Rattle.words.specs.Outputs.{over}
+use Rattle.words.proofs.Outputs.{over-length, over-one}
 use Rattle.words.proofs.Growing.{none≢some, picked}
 use Rattle.words.proofs.Shape.{grows}
 use Rattle.writing.specs.States.{State, after, moved, opening}
 use Rattle.writing.specs.Midway.{three, joined, Shifted, Room, Holds, Midway}
-use Rattle.writing.proofs.Lists.{piled-push, piled-at, piled-cut, over-length, over-one, over-three, over-put}
+use Rattle.writing.proofs.Lists.{piled-push, piled-at, piled-cut, over-three, over-put}
 
 -- ---- the pile and the lists, k being popped
 
@@ -302,7 +302,7 @@ word-some n (x ∷ w) S = omega arith
 
 parts : (w : List ℕ) → 1 ≤ length w → getD w 0 0 ∷ take (length w - 1) (drop 1 w) ≡ w
 parts [] l = absurd (omega arith)
-parts (x ∷ w) l = let e : suc (length w) - 1 ≡ length w = omega arith in rw (e, take-length w)
+parts (x ∷ w) l = rw (rest-is x w)
 
 -- the first item, and the rest as the code lends it
 pub spelt-parts : (n : ℕ) (w : List ℕ) (D : Pair) → Spells n w → spell w ≡ some D → spell (getD w 0 0 ∷ take (length w - 1) (drop 1 w)) ≡ some D

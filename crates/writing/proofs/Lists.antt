@@ -1,18 +1,19 @@
 -- Laws of a word's items, of the pile, and of writing over the beginning of a list.
-use mathlib.Core.Path.{_≡_, refl, sym, ap, _∙_}
+use mathlib.Core.Path.{_≡_, refl, ap, _∙_}
 use mathlib.Core.Logic.{_≢_, _⊎_, inl, inr}
 use mathlib.Core.List.{List, [], _∷_, _++_, append-assoc}
 use Prim.Native.Nat.{ℕ, zero, suc, _+_, _-_, _≤_, _<_}
 use native.Mathlib.Nat.{not-suc-le-zero}
 use native.Mathlib.Numerals.{add-one}
 use native.Mathlib.Omega.{arith}
-use lib.ListN.{length, getD, set, drop, length-append, length-drop, length-set}
-use lib.Seq.{getD-set-same, getD-set-other, drop-cons, set-at, set-append-left}
+use lib.ListN.{length, getD, set, drop, length-set}
+use lib.Seq.{getD-set-same, getD-set-other, drop-cons}
 use Rattle.lists.specs.Lists.{put, cut}
 use Rattle.lists.specs.Ranges.{Edge}
 use Rattle.lists.proofs.Tests.{same?}
-use Rattle.lists.proofs.Lists.{length-cut, length-1}
+use Rattle.lists.proofs.Lists.{length-cut, length-put, length-1, put-place, put-left}
 use Rattle.words.specs.Outputs.{over}
+pub use Rattle.words.proofs.Outputs.{over-length, over-one}
 use Rattle.writing.specs.Midway.{three, Piled, Shifted}
 
 -- the items from place i on begin with the one there
@@ -72,13 +73,6 @@ sliding-more p q at i l m s = record {
 
 -- ---- a list whose beginning is written over
 
-pub over-length : (s a : List ℕ) → length s ≤ length a → length (over s a) ≡ length a
-over-length s a l = simp (length-append, length-drop) (omega arith)
-
--- one entry more
-pub over-one : (s a : List ℕ) (i v : ℕ) → i ≡ length s → i < length a → set (over s a) i v ≡ over (s ++ (v ∷ [])) a
-over-one s a i v e l = rw (length-1, drop-cons a (length s) 0 (omega arith), set-at s (getD a (length s) 0) (drop (suc (length s)) a) v i (sym e), append-assoc)
-
 pub over-three : (s a : List ℕ) (i x y z : ℕ) → i ≡ length s → i + 3 ≤ length a → three (over s a) i x y z ≡ over (s ++ (x ∷ y ∷ z ∷ [])) a
 over-three s a i x y z e l =
     ap (λ (t : List ℕ). set (set t (i + 1) y) (i + 2) z) (over-one s a i x e (omega arith))
@@ -91,5 +85,4 @@ over-three s a i x y z e l =
 
 -- an entry already written
 pub over-put : (s a : List ℕ) (k v : ℕ) → Edge (length s) k → set (over s a) (k - 1) v ≡ over (put s k v) a
-over-put s a zero v e = absurd (omega arith)
-over-put s a (suc k) v e = let q : suc k - 1 ≡ k = omega arith in rw (q, length-set, set-append-left s (drop (length s) a) k v (e .1))
+over-put s a k v e = rw (put-place (over s a) k v (e .0), put-left s (drop (length s) a) k v e, length-put)

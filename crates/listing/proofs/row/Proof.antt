@@ -1,12 +1,12 @@
 -- `row` meets its contract: each list is filled from its place on, and put back.
-use mathlib.Core.Path.{_≡_, refl, sym, ap, _∙_}
+use mathlib.Core.Path.{refl, sym, ap, _∙_}
 use mathlib.Core.List.{List}
-use Prim.Native.Nat.{ℕ, _+_, _≤_}
+use Prim.Native.Nat.{ℕ}
 use native.Mathlib.Omega.{arith}
-use lib.ListN.{length, take}
+use lib.ListN.{take}
 use lib.Seq.{length-take-le}
+use Rattle.words.specs.Outputs.{from}
 use Rattle.words.proofs.Shape.{word-length}
-use Rattle.walking.specs.Walk.{from}
 use Rattle.walking.proofs.Texts.{filled}
 use borrow.Author.Needs.{needs}
 use Rattle.listing.proofs.row.Statement.{statement}

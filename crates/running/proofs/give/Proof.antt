@@ -5,9 +5,10 @@ use Prim.Native.Nat.{_≤_}
 use native.Mathlib.Omega.{arith}
 use lib.ListN.{length}
 use lib.Seq.{length-take-le}
+use Rattle.words.proofs.Outputs.{long-enough}
 use Rattle.counting.specs.Diagrams.{diagramOf}
 use Rattle.running.specs.declared.Stepping.the-variants as stepping
-use Rattle.running.proofs.Giving.{long-enough, held-length, held-small, held-within, held-spells, held-diagram, held-at, held-over}
+use Rattle.running.proofs.Giving.{held-length, held-small, held-within, held-spells, held-diagram, held-at, held-over}
 use Rattle.running.proofs.give.Statement.{statement}
 use Rattle.running.proofs.give.Tie as tie
 

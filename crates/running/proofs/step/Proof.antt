@@ -2,20 +2,16 @@
 use borrow.Author.Needs.{needs}
 use mathlib.Core.Path.{_≡_, refl, sym, ap, _∙_}
 use mathlib.Core.Logic.{_≢_}
-use mathlib.Core.List.{List}
-use Prim.Native.Nat.{ℕ}
 use lib.ListN.{length}
 use borrow.Author.Tests.{not-true, not-false}
-use Rattle.words.specs.Outputs.{Short, Untouched}
+use Rattle.words.specs.Outputs.{Short}
+use Rattle.words.proofs.Outputs.{untouched}
 use Rattle.succession.specs.declared.Held.{Held}
 use Rattle.succession.specs.Succession.{following}
 use Rattle.running.specs.Sound.{Sound}
 use Rattle.running.proofs.Standing.{step-34, step-over, step-9, step-end, step-next, step-gives}
 use Rattle.running.proofs.step.Statement.{statement}
 use Rattle.running.proofs.step.Tie as tie
-
-untouched : (a0 a1 aw : List ℕ) → Untouched a0 a1 aw a0 a1 aw
-untouched a0 a1 aw = record { s0-same = refl; s1-same = refl; word-same = refl }
 
 -- past the first test the run is sound
 is-sound : (c : tie.Else1) → Sound (c .before .before .before .before .before .args .run)
