@@ -5,7 +5,6 @@ use Prim.Native.Nat.{ℕ}
 use native.Mathlib.Omega.{arith}
 use Rattle.lists.specs.Ranges.{Edge, every}
 use Rattle.lists.proofs.Ranges.{every-true}
-pub use Rattle.lists.proofs.Lists.{at-place, put-place}
 use Rattle.book.specs.Sound.{both}
 
 pub every-false : (n : ℕ) (t : ℕ → Bool) (x : ℕ) → Edge n x → t x ≡ false → every n t ≡ false

@@ -9,7 +9,7 @@ use Rattle.lists.proofs.Lists.{length-1}
 use Rattle.lists.proofs.Tests.{lt-true, lt-false}
 use Rattle.words.specs.Outputs.{over}
 use Rattle.words.specs.Shape.{pre}
-use Rattle.writing.proofs.Lists.{over-length, over-one}
+use Rattle.words.proofs.Outputs.{over-length, over-one}
 use Rattle.counting.specs.Listing.{ways}
 use Rattle.counting.specs.Ranking.{forks, buds, unranked}
 use Rattle.counting.proofs.Tails.{pre-le}

@@ -12,7 +12,7 @@ use Rattle.lists.proofs.Lists.{rest-is}
 use Rattle.words.specs.Shape.{Fits, Word}
 use Rattle.words.specs.Word.{Spells}
 use Rattle.words.proofs.Shape.{spells-word}
-use Rattle.writing.proofs.Lists.{over-one}
+use Rattle.words.proofs.Outputs.{over-one}
 use Rattle.counting.specs.Listing.{each, tails, listing, ways, count}
 use Rattle.counting.specs.Position.{wordAt, position}
 use Rattle.counting.specs.Ranking.{rank}

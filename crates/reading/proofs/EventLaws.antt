@@ -12,7 +12,7 @@ use lib.Seq.{drop-cons, length-take-le, take-suc-set}
 use Rattle.lists.specs.Lists.{Has, All, pick, find, cut, put}
 use Rattle.lists.specs.Ranges.{Edge}
 use Rattle.lists.proofs.Tests.{le-true, le-false, lt-true, lt-false}
-use Rattle.lists.proofs.Lists.{has-getD, find-getD, all-cut, all-map, all-has, length-cut, length-put, rest-is}
+use Rattle.lists.proofs.Lists.{has-getD, find-getD, all-cut, all-map, all-has, length-cut, length-put, length-0, rest-is}
 use Rattle.pending.specs.Ring.{Ring}
 use Rattle.pending.proofs.Laws.{ring-labels}
 use Rattle.reading.specs.declared.Step.the-variants.{Next}
@@ -26,10 +26,6 @@ two u = omega arith
 
 three : (u : ℕ) → u + 3 ≡ suc (suc (suc u))
 three u = omega arith
-
-nil : (s : List ℕ) → length s ≡ 0 → s ≡ []
-nil [] e = refl
-nil (x ∷ s) e = absurd (omega arith)
 
 all-drop : (P : ℕ → Type 0) (s : List ℕ) → All P s → All P (drop 1 s)
 all-drop P [] a = a
@@ -169,7 +165,7 @@ module _ (nx pv x0 x1 : List ℕ) (u h : ℕ) (t : State) (o : Holds nx pv x0 x1
 
   pub item-refused : h ≡ 0 → (item : ℕ) (w : List ℕ) → onward (item ∷ w) t ≡ refused 26
   unfolding items
-  item-refused g item w = rw (nil (t .stack) (sym (o .high) ∙ g))
+  item-refused g item w = rw (length-0 (t .stack) (sym (o .high) ∙ g))
 
   -- ---- the end of the items
 
@@ -179,7 +175,7 @@ module _ (nx pv x0 x1 : List ℕ) (u h : ℕ) (t : State) (o : Holds nx pv x0 x1
 
   end-built : h ≡ 0 → onward [] t ≡ built record { black = t .black; white = t .white }
   unfolding items
-  end-built g = rw (nil (t .stack) (sym (o .high) ∙ g))
+  end-built g = rw (length-0 (t .stack) (sym (o .high) ∙ g))
 
   module _ (g : h ≡ 0) (a b : List ℕ) where
     pub room-refused-black : length a < u → room (onward [] t) (length a) (length b) ≡ refused 9
@@ -256,7 +252,7 @@ rest-end rest i t h = rw (drop-of-length-le rest h)
 
 pub answer-empty : (w : List ℕ) (a b : ℕ) → length w ≡ 0 → answer w a b ≡ refused 21
 unfolding answer read
-answer-empty w a b e = rw (nil w e)
+answer-empty w a b e = rw (length-0 w e)
 
 pub answer-long : (w : List ℕ) (a b : ℕ) → 1025 < length w → answer w a b ≡ refused 21
 unfolding answer read

@@ -14,7 +14,7 @@ use Rattle.lists.proofs.Tests.{eqb-true, ltb-true, leb-true, lt?, both-true}
 use Rattle.lists.proofs.Ranges.{every-true}
 use Rattle.words.specs.Shape.{pre, less1, less3}
 use Rattle.counting.specs.Listing.{ways}
-use Rattle.counting.proofs.Tails.{less1-same, less3-same, pre-le, ways-0-0, ways-0, ways-suc}
+use Rattle.counting.proofs.Tails.{less1-same, less3-same, pre-le, sum, ways-0-0, ways-0, ways-suc}
 use Rattle.table.specs.Rows.{rows, entry, Found}
 
 -- what the neighbours of the entry for a stack of height h + 1 give
@@ -34,9 +34,6 @@ right-at h f l = every-true (57 - 3 * suc h) (λ k. right h (pre k)) (every-true
 entry-ruled : (h f : ℕ) → 3 * suc h + f ≤ 56 → entry (suc h) f ≡ ruled entry h f
 unfolding right
 entry-ruled h f l = eqb-true (entry (suc h) f) (ruled entry h f) (both-true (eqb (entry (suc h) f) (ruled entry h f)) (ltb (entry (suc h) f) (2 ^ 49)) (right-at h f l) .0)
-
-sum : (h a a′ b b′ c c′ d d′ : ℕ) → a ≡ a′ → b ≡ b′ → c ≡ c′ → d ≡ d′ → a + (b + (c + h * d)) ≡ a′ + (b′ + (c′ + h * d′))
-sum h a a′ b b′ c c′ d d′ p q r s = cc
 
 -- m bounds the length of a word from here on
 by-rule : (m h f : ℕ) → h + f ≤ m → 3 * h + f ≤ 56 → entry h f ≡ ways h f

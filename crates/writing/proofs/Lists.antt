@@ -13,7 +13,6 @@ use Rattle.lists.specs.Ranges.{Edge}
 use Rattle.lists.proofs.Tests.{same?}
 use Rattle.lists.proofs.Lists.{length-cut, length-put, length-1, put-place, put-left}
 use Rattle.words.specs.Outputs.{over}
-pub use Rattle.words.proofs.Outputs.{over-length, over-one}
 use Rattle.writing.specs.Midway.{three, Piled, Shifted}
 
 -- the items from place i on begin with the one there

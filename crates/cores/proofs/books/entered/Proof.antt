@@ -1,6 +1,6 @@
 use borrow.Author.Needs.{needs}
 use Rattle.book.specs.Calls.{entered}
-use Rattle.book.proofs.Entries.{put-place}
+use Rattle.lists.proofs.Lists.{put-place}
 use Rattle.cores.proofs.books.entered.Statement.{statement}
 use Rattle.cores.proofs.books.entered.Tie as tie
 use Rattle.cores.proofs.books.entered.Reads as reads

@@ -1,6 +1,6 @@
 use borrow.Author.Needs.{needs}
 use denote.Ref.{now}
-use Rattle.book.proofs.Entries.{at-place}
+use Rattle.lists.proofs.Lists.{at-place}
 use Rattle.soundness.proofs.shares.entry.Statement.{statement}
 use Rattle.soundness.proofs.shares.entry.Tie as tie
 use Rattle.soundness.proofs.shares.entry.Reads as reads
