@@ -1,4 +1,4 @@
--- Laws for the code over a book's entries: share j's entry stands at place j - 1 (laws of lists), and a test that fails at one number fails for all.
+-- A law for the code over a book's entries: a test that fails at one number fails for all.
 use mathlib.Core.Path.{_≡_, refl}
 use mathlib.Core.Bool.{Bool, true, false}
 use Prim.Native.Nat.{ℕ}

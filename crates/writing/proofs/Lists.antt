@@ -12,6 +12,7 @@ use Rattle.lists.specs.Lists.{put, cut}
 use Rattle.lists.specs.Ranges.{Edge}
 use Rattle.lists.proofs.Tests.{same?}
 use Rattle.lists.proofs.Lists.{length-cut, length-put, length-1, put-place, put-left}
+use Rattle.words.proofs.Outputs.{over-one}
 use Rattle.words.specs.Outputs.{over}
 use Rattle.writing.specs.Midway.{three, Piled, Shifted}
 
