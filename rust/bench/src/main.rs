@@ -27,7 +27,7 @@ fn main() -> ExitCode {
     let names: Vec<&String> = arguments.iter().filter(|a| !a.starts_with("--")).collect();
     let plan = match quick {
         true => timing::Plan { repeats: 3, least: Duration::from_millis(5) },
-        false => timing::Plan { repeats: 11, least: Duration::from_millis(40) },
+        false => timing::Plan { repeats: 41, least: Duration::from_millis(10) },
     };
     agreement::all();
     println!("the library and both baselines agree on the inputs tried; now the times per call");
