@@ -98,9 +98,7 @@ pub fn none_before(
     let mut x: usize = 0;
     while x < n {
         x += 1;
-        if comes_before(
-            s0, s1, labels, order, next, prev, x as u16, root, own, cand,
-        ) {
+        if comes_before(s0, s1, labels, order, next, prev, x as u16, root, own, cand) {
             return false;
         }
     }
