@@ -1,3 +1,4 @@
+-- `claim_core` meets its contract: the decision, carried out.
 use borrow.Author.Needs.{needs}
 use mathlib.Core.Path.{_∙_}
 use Rattle.cores.proofs.claim_core.Statement.{statement}

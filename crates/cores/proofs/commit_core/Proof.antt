@@ -1,3 +1,4 @@
+-- `commit_core` meets its contract: the decision, carried out.
 use borrow.Author.Needs.{needs}
 use mathlib.Core.Path.{_∙_}
 use Rattle.cores.proofs.commit_core.Statement.{statement}

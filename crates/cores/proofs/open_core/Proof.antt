@@ -1,3 +1,4 @@
+-- `open_core` meets its contract: 31 and 51 in their order, and otherwise the book that is opened.
 use borrow.Author.Needs.{needs}
 use mathlib.Core.Path.{_≡_, refl, sym, _∙_}
 use mathlib.Core.Bool.{true}

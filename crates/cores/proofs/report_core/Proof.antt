@@ -1,3 +1,4 @@
+-- `report_core` meets its contract: the decision; nothing is carried out.
 use borrow.Author.Needs.{needs}
 use Rattle.cores.proofs.report_core.Statement.{statement}
 use Rattle.cores.proofs.report_core.Tie as tie

@@ -1,3 +1,4 @@
+-- `take_core` meets its contract: the decision, carried out.
 use borrow.Author.Needs.{needs}
 use Rattle.cores.proofs.take_core.Statement.{statement}
 use Rattle.cores.proofs.take_core.Tie as tie

@@ -1,3 +1,4 @@
+-- `entries_sound` meets its contract: the loop's invariant: the entries before place i are sound, and the ends of the shares so far are those of a division of j times the count by k.
 use borrow.Author.Needs.{needs}
 use mathlib.Core.Path.{_≡_, refl, sym, _∙_}
 use mathlib.Core.Bool.{true, false}

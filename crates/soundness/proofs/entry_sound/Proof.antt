@@ -1,3 +1,4 @@
+-- `entry_sound` meets its contract: a share or an unused entry, as the definition tells them apart.
 use borrow.Author.Needs.{needs}
 use mathlib.Core.Path.{refl}
 use Prim.Native.Nat.{suc}

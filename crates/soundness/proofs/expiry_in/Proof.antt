@@ -1,3 +1,4 @@
+-- `expiry_in` meets its contract: each test of the code is the definition's own; the bound beyond the latest tick fits 64 bits.
 use borrow.Author.Needs.{needs}
 use Rattle.soundness.specs.Entries.{timely}
 use Rattle.soundness.proofs.expiry_in.Statement.{statement}

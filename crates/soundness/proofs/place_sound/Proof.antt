@@ -1,3 +1,4 @@
+-- `place_sound` meets its contract: each test of the code is the definition's own; the two numbers after a share's ends fit 64 bits.
 use borrow.Author.Needs.{needs}
 use native.Mathlib.Numerals.{add-one}
 use Rattle.soundness.specs.Entries.{placed}

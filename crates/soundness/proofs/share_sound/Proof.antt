@@ -1,3 +1,4 @@
+-- `share_sound` meets its contract: the tests of one share, put together in another order than the definition's.
 use borrow.Author.Needs.{needs}
 use mathlib.Core.Path.{_≡_, sym, _∙_}
 use mathlib.Core.List.{List}

@@ -1,3 +1,4 @@
+-- `sound` meets its contract: the numbers are tested before the entries, whose ends they keep small.
 use borrow.Author.Needs.{needs}
 use mathlib.Core.Path.{_≡_, sym, _∙_}
 use mathlib.Core.Bool.{Bool, true}

@@ -1,3 +1,4 @@
+-- `claim_number` meets its contract: the book is tested first, so that the rest is asked of a sound one.
 use borrow.Author.Needs.{needs}
 use mathlib.Core.Path.{refl, sym, _∙_}
 use Rattle.book.specs.Calls.{tick-in, claim-number}

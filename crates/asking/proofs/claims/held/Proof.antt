@@ -1,3 +1,4 @@
+-- `held` meets its contract: the two tests are the definition's.
 use borrow.Author.Needs.{needs}
 use Rattle.asking.proofs.claims.held.Statement.{statement}
 use Rattle.asking.proofs.claims.held.Tie as tie

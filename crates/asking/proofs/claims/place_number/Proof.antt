@@ -1,3 +1,4 @@
+-- `place_number` meets its contract: a share that is none of 1..k is refused before its entries are looked at.
 use borrow.Author.Needs.{needs}
 use mathlib.Core.Path.{sym, _∙_}
 use Rattle.asking.specs.Claims.{place-number}

@@ -1,3 +1,4 @@
+-- `share_number` meets its contract: a sound book has its share among 32 entries; the tests are then the definition's.
 use borrow.Author.Needs.{needs}
 use native.Mathlib.Omega.{arith}
 use denote.Ref.{now}

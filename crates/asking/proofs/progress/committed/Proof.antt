@@ -1,3 +1,4 @@
+-- `committed` meets its contract: the loop's invariant: the sum is what the first i shares have committed.
 use mathlib.Core.Path.{_≡_, refl, _∙_}
 use Prim.Native.Nat.{ℕ, suc, pred, _+_, _-_, _*_, _^_, _≤_, _<_}
 use native.Mathlib.Numerals.{add-one}

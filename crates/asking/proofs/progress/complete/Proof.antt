@@ -1,3 +1,4 @@
+-- `complete` meets its contract: the loop's invariant: the first i shares are finished.
 use mathlib.Core.Path.{_≡_, refl, sym}
 use mathlib.Core.Bool.{true, false}
 use Prim.Native.Nat.{ℕ, suc, _+_, _-_, _≤_, _<_}

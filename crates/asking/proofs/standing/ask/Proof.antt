@@ -1,3 +1,4 @@
+-- `ask` meets its contract: what is asked in turn, each of a book that has passed what came before.
 use borrow.Author.Needs.{needs}
 use mathlib.Core.Path.{_≡_, sym, _∙_}
 use mathlib.Core.Logic.{_≢_}

@@ -1,3 +1,4 @@
+-- `holder` meets its contract: the loop's invariant: the ticket stands where it stands among the first j shares.
 use mathlib.Core.Path.{_≡_, refl, _∙_}
 use mathlib.Core.Logic.{_≢_}
 use mathlib.Core.List.{List}

@@ -1,3 +1,4 @@
+-- `claim` meets its contract: an accepted claim of a sound book, whose numbers leave room for a ticket and an expiry more.
 use borrow.Author.Needs.{needs}
 use mathlib.Core.Path.{_≡_, refl, sym, _∙_}
 use mathlib.Core.Logic.{_≢_}

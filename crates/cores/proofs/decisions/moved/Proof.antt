@@ -1,3 +1,4 @@
+-- `moved` meets its contract: whether the share is finished a position further is told by its last position alone.
 use borrow.Author.Needs.{needs}
 use mathlib.Core.Path.{_≡_, sym, _∙_}
 use mathlib.Core.Bool.{Bool, true, false}

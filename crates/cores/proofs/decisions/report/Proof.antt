@@ -1,3 +1,4 @@
+-- `report` meets its contract: the counts are of a sound book.
 use borrow.Author.Needs.{needs}
 use mathlib.Core.Path.{_≡_, sym, _∙_}
 use mathlib.Core.Bool.{true}

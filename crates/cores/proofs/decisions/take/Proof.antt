@@ -1,16 +1,17 @@
+-- `take` meets its contract: refused as asking says, or 9; otherwise the next position of the ticket's share is one of the size's, and its diagram is written.
 use borrow.Author.Needs.{needs}
 use mathlib.Core.Path.{_≡_, refl}
 use mathlib.Core.Logic.{_≢_, _⊎_, inl, inr, ⊎-elim}
 use mathlib.Core.Bool.{Bool, true, false, true≢false}
 use mathlib.Core.List.{List}
-use Prim.Native.Nat.{ℕ, suc, _≤_, _<_}
-use native.Mathlib.Omega.{arith}
+use Prim.Native.Nat.{ℕ, suc}
 use lib.Dec.{leb}
 use lib.ListN.{length}
 use denote.Ref.{now}
 use Rattle.lists.specs.Ranges.{Edge}
-use Rattle.lists.proofs.Tests.{eqb-ne, le-true, le-false, lt?}
+use Rattle.lists.proofs.Tests.{eqb-ne, le-true, le-false}
 use Rattle.words.specs.Outputs.{Short, Written, Untouched}
+use Rattle.words.proofs.Outputs.{long-enough}
 use Rattle.counting.specs.Listing.{count}
 use Rattle.counting.specs.Position.{wordAt}
 use Rattle.counting.specs.Diagrams.{diagramAt}
@@ -25,8 +26,9 @@ use Rattle.asking.specs.Asking.{Asking}
 use Rattle.book.specs.Taken.{Taken}
 use Rattle.book.proofs.Partition.{held-in}
 use Rattle.book.proofs.SoundBook.{both-of}
-use Rattle.book.proofs.Accepted.{TicketGood, ticket-good, ticket-unfinished}
+use Rattle.book.proofs.Accepted.{TicketGood, ticket-unfinished}
 use Rattle.soundness.specs.Entries.{bookWith}
+use Rattle.cores.proofs.Asked.{asked-good, asked-in}
 use Rattle.cores.proofs.decisions.take.Statement.{statement}
 use Rattle.cores.proofs.decisions.take.Tie as tie
 use Rattle.cores.proofs.decisions.take.Reads as reads
@@ -36,12 +38,9 @@ use Rattle.positions.proofs.diagram_at.Reads as diagram-at-reads
 use Rattle.soundness.proofs.shares.entry.Reads as entry-reads
 
 -- the test of the room that the lists have
-reach : (a b : ℕ) → ¬ (a < b) → b ≤ a
-reach a b h = ⊎-elim (λ x. absurd (h x)) (λ x. x) (lt? a b)
-
 room-true : (n : ℕ) (a0 a1 aw : List ℕ) → ¬ Short n a0 a1 aw → room n (length a0) (length a1) (length aw) ≡ true
 unfolding room
-room-true n a0 a1 aw h = both-of _ _ (le-true _ _ (reach _ _ (λ x. h (inl x)))) (both-of _ _ (le-true _ _ (reach _ _ (λ x. h (inr (inl x))))) (le-true _ _ (reach _ _ (λ x. h (inr (inr x))))))
+room-true n a0 a1 aw h = let l = long-enough n a0 a1 aw h in both-of _ _ (le-true _ _ (l .0)) (both-of _ _ (le-true _ _ (l .1)) (le-true _ _ (l .2)))
 
 one-false : (x y z : Bool) → (x ≡ false) ⊎ ((y ≡ false) ⊎ (z ≡ false)) → both x (both y z) ≡ false
 one-false false y z h = refl
@@ -106,11 +105,8 @@ lent c = bookWith (c .args .h) (now (c .args .nexts)) (now (c .args .tickets)) (
 share-of : (c : tie.After-known-told2) → Asking (lent (c .before .before .before .before .before .before .before .before .before .before)) (c .before .before .before .before .before .before .before .before .before .before .args .tick) (c .before .before .before .before .before .before .before .before .before .before .args .ticket) (asked.Share (c .before .j .given .0 .0))
 share-of c = rw (c .before .j .given .1) at (c .before .before .before .ask .ensures)
 
-good : (c : tie.After-known-told2) → TicketGood (lent (c .before .before .before .before .before .before .before .before .before .before)) (c .before .before .before .before .before .before .before .before .before .before .args .tick) (c .before .before .before .before .before .before .before .before .before .before .args .ticket)
-good c = let s = c .before .before .before .before .before .before .before .before .before .before in ticket-good (lent s) (s .args .tick) (s .args .ticket) 0 (share-of c .1 0) .0
-
 one-of-32 : (c : tie.After-known-told2) → Edge 32 (c .before .j .given .0 .0)
-one-of-32 c = let G = good c in let S = G .is-sound in let k = S .shares-in in let e = G .stands .share-in in rw (share-of c .0) (omega arith)
+one-of-32 c = asked-in _ _ _ _ (share-of c)
 
 ask-requires : tie.Need-ask-requires
 ask-requires c κs = search needs
@@ -157,7 +153,7 @@ returns-2 c =
     let t = d .before .before .before .before .before in
     let s = t .before .before .before .before .before .before .before .before .before .before in
     let g = rw (c .before .k2 .given .1, d .before .before .before .before .entry .ensures, share-of t .0) at (d .diagram-at .ensures) in
-    let k = refused-9 (lent s) (s .args .tick) (s .args .ticket) (good t) (now (s .args .s0)) (now (s .args .s1)) (now (s .args .word)) _ (g .0) in
+    let k = refused-9 (lent s) (s .args .tick) (s .args .ticket) (asked-good _ _ _ _ (share-of t)) (now (s .args .s0)) (now (s .args .s1)) (now (s .args .word)) _ (g .0) in
     rw (k .0) (take-short (lent s) (s .args .tick) (s .args .ticket) (now (s .args .s0)) (now (s .args .s1)) (now (s .args .word)) (share-of t .1) (k .1) (g .1), tt)
 
 same-length-4 : tie.Need-same-length-4

@@ -1,3 +1,4 @@
+-- `kaldvemir_open` meets its contract: the core's answer and book, by their numbers.
 use Rattle.layout.specs.Layout.{book-numbers}
 use Rattle.kaldvemir.specs.Answers as answers
 use mathlib.Core.Path.{_≡_, refl, sym, _∙_, ap}

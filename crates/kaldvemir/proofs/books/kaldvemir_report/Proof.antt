@@ -1,3 +1,4 @@
+-- `kaldvemir_report` meets its contract: the decision on the parts of the 100 numbers.
 use borrow.Author.Needs.{needs}
 use mathlib.Core.Path.{_∙_, ap}
 use denote.Ref.{now}

@@ -1,3 +1,4 @@
+-- `kaldvemir_take` meets its contract: the decision on the parts of the 100 numbers, and the change written back.
 use borrow.Author.Needs.{needs}
 use denote.Ref.{now}
 use Rattle.book.specs.Changes.{changed}

@@ -1,3 +1,4 @@
+-- `change` meets its contract: entry j of a list stands j places after the list's beginning, less one.
 use borrow.Author.Needs.{needs}
 use mathlib.Core.Path.{sym, ap, _∙_}
 use native.Mathlib.Omega.{arith}

@@ -1,3 +1,4 @@
+-- `held` meets its contract: each part stands where the layout says.
 use mathlib.Core.Path.{_≡_, refl, sym, _∙_, ap}
 use borrow.Author.Needs.{needs}
 use Rattle.layout.proofs.books.held.Statement.{statement}

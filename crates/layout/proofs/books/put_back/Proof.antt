@@ -1,3 +1,4 @@
+-- `put_back` meets its contract: the numbers and the three parts, pasted one after another, are all of the 100.
 use Prim.Native.Nat.{ℕ}
 use mathlib.Core.List.{List}
 use lib.Seq.{paste}
