@@ -23,7 +23,7 @@ use Rattle.book.proofs.CallLaws.{commit-good, committed-number, take-good}
 use Rattle.book.proofs.Tickets.{Gone, holder-nowhere, nowhere-holder, gone-claim, gone-take, gone-release, gone-commit, not-nowhere, not-lapsed, released-good}
 use Rattle.demands.specs.FirstList.{Call, claim, take, commit, release, report, after, afterAll, named, commits}
 use Rattle.demands.specs.Corollaries.{Powerless, SameShare, Corollaries, CorollariesHold}
-use Rattle.demands.proofs.FirstList.{ledger, ledger-after, ledger-all}
+use Rattle.demands.proofs.FirstList.{ledger, ledger-after, ledger-all, open-good}
 
 module _ (n k : ℕ) (b : Book) (C : List ℕ) (L : Ledger n k b C) where
   powerless : (tick t : ℕ) → ¬ TicketGood b tick t → Powerless b tick t
@@ -73,8 +73,8 @@ never-falls n k more b C L =
     let d = length-append C (commits b more) in
     omega arith
 
-pub corollaries-hold : CorollariesHold
-corollaries-hold n k N K calls =
+corollaries : (n k : ℕ) → Edge 50 n → Edge 32 k → (calls : List Call) → Corollaries n k (afterAll (opened n k) calls) (commits (opened n k) calls)
+corollaries n k N K calls =
     let b = afterAll (opened n k) calls in
     let C = commits (opened n k) calls in
     let L = ledger n k N K calls in
@@ -86,3 +86,6 @@ corollaries-hold n k N K calls =
       beginning = beginning n k b C L (K .0);
       never-falls = λ more. never-falls n k more b C L;
     }
+
+pub corollaries-hold : CorollariesHold
+corollaries-hold lent n k e calls = let G = open-good lent n k e in rw (G .left) (corollaries n k (G .size-in) (G .shares-in) calls)

@@ -1,19 +1,19 @@
 -- The first list of demand 3, by the ledger: every call keeps it, so the whole list does, and the ledger says what the report, the takes
 -- and the commits have to say.
 use mathlib.Core.Path.{_≡_, refl, sym, ap, _∙_}
-use mathlib.Core.Logic.{_↔_}
-use mathlib.Core.Bool.{true}
+use mathlib.Core.Logic.{_≢_, _⊎_, inl, inr, _↔_}
+use mathlib.Core.Bool.{Bool, true, false}
 use mathlib.Core.List.{List, [], _∷_, _++_, append-assoc, append-nil}
 use Prim.Native.Nat.{ℕ, zero, suc, _≤_, _<_}
 use native.Mathlib.Omega.{arith}
 use lib.Dec.{eqb}
 use lib.ListN.{length}
-use Rattle.lists.specs.Lists.{pick, Has, Apart}
+use Rattle.lists.specs.Lists.{pick, at, Has, Apart}
 use Rattle.lists.specs.Ranges.{Edge}
-use Rattle.lists.proofs.Tests.{eqb-eq}
+use Rattle.lists.proofs.Tests.{eqb-eq, eqb-ne, same?}
 use Rattle.diagrams.specs.Isomorphism.{RootAlike}
 use Rattle.diagrams.specs.Check.{Accepts}
-use Rattle.words.specs.Outputs.{over}
+use Rattle.words.specs.Outputs.{over, Written}
 use Rattle.labelling.specs.Labelling.{wordOf}
 use Rattle.labelling.proofs.OfLists.{alike-words}
 use Rattle.counting.specs.Listing.{count}
@@ -22,20 +22,22 @@ use Rattle.counting.specs.Diagrams.{diagramAt}
 use Rattle.counting.proofs.Positions.{at-once}
 use Rattle.counting.proofs.InPlace.{at-size, at-wordOf, at-characteristic, at-accepted, position-counted, position-alike, position-only}
 use Rattle.book.specs.declared.types.Book.{Book}
+use Rattle.book.specs.declared.types.Opening.the-variants.{Opened}
 use Rattle.book.specs.declared.types.Taking.the-variants.{Given}
 use Rattle.book.specs.declared.types.Committing.the-variants.{Committed}
 use Rattle.book.specs.declared.types.Reporting.the-variants.{Progress}
 use Rattle.book.specs.Shares.{first, last, next, ticket, finished, committed, complete, holder}
-use Rattle.book.specs.Sound.{sound}
-use Rattle.book.specs.Calls.{opened, take-answer, take-number, take-list, commit-number, commit-answer, report-answer}
+use Rattle.book.specs.Sound.{among, sound}
+use Rattle.book.specs.Calls.{unless, open-number, open-answer, open-book, opened, entered, due, take-number, take-list, moved, commit-number, commit-answer, commit-book, report-answer}
+use Rattle.book.specs.Taken.{Taken}
 use Rattle.book.specs.Holding.{Holds}
 use Rattle.book.proofs.Partition.{share-of, held-in, share-once}
-use Rattle.book.proofs.SoundBook.{facts-sound}
-use Rattle.book.proofs.Accepted.{Stands, ticket-unfinished}
+use Rattle.book.proofs.SoundBook.{facts-sound, among-true, entered-next}
+use Rattle.book.proofs.Accepted.{zero-unless, Stands, ticket-unfinished}
 use Rattle.book.proofs.Ledger.{Ledger, passed-held, next-uncommitted, ledger-opened, finished-all, all-finished, complete-shares, shares-complete}
 use Rattle.book.proofs.CallLaws.{ledger-claim, ledger-take, ledger-commit, ledger-release, commit-good, committed-number, take-good}
 use Rattle.demands.specs.Demand2.{Characteristic}
-use Rattle.demands.specs.FirstList.{Call, claim, take, commit, release, report, after, afterAll, named, commits, Finished, IsAt, EachOnce, InPlace, Gives, FirstList, FirstListHolds}
+use Rattle.demands.specs.FirstList.{Call, claim, take, commit, release, report, after, afterAll, named, commits, Finished, IsAt, EachOnce, InPlace, Due, Gives, Records, FirstList, FirstListHolds}
 
 -- ---- the ledger along a list
 
@@ -49,11 +51,6 @@ ledger-after n k b C L report = rw append-nil L
 pub ledger-all : (n k : ℕ) (calls : List Call) (b : Book) (C : List ℕ) → Ledger n k b C → Ledger n k (afterAll b calls) (C ++ commits b calls)
 ledger-all n k [] b C L = rw append-nil L
 ledger-all n k (c ∷ calls) b C L = rw append-assoc at (ledger-all n k calls (after b c) (C ++ named b c) (ledger-after n k b C L c))
-
--- one call more at the end of a list
-commits-snoc : (b : Book) (calls : List Call) (c : Call) → commits b (calls ++ (c ∷ [])) ≡ commits b calls ++ named (afterAll b calls) c
-commits-snoc b [] c = append-nil (named b c)
-commits-snoc b (d ∷ calls) c = ap (λ (l : List ℕ). named b d ++ l) (commits-snoc (after b d) calls c) ∙ sym (append-assoc (named b d) (commits (after b d) calls) (named (afterAll (after b d) calls) c))
 
 -- ---- the diagrams of a size
 
@@ -79,7 +76,25 @@ pub placed-once : (n : ℕ) (s0 s1 : List ℕ) (root : ℕ) → Accepts s0 s1 ro
     → Edge (count n) (position n (wordOf s0 s1 root)) × IsAt n s0 s1 root (position n (wordOf s0 s1 root)) × ((q : ℕ) → Edge (count n) q → IsAt n s0 s1 root q → q ≡ position n (wordOf s0 s1 root))
 placed-once n s0 s1 root A l h = rw (← l) (position-counted s0 s1 root A, position-alike s0 s1 root A, λ q e i. position-only s0 s1 root A q e (rw l h) i)
 
--- ---- the theorem
+-- ---- an accepted open
+
+pub record OpenGood (lent : Book) (n k : ℕ) : Type 0 where
+  pub size-in : Edge 50 n
+  pub shares-in : Edge 32 k
+  pub left : open-book lent n k ≡ opened n k
+
+pub open-good : (lent : Book) (n k : ℕ) → open-answer n k ≡ Opened → OpenGood lent n k
+unfolding open-answer open-book
+open-good lent n k e = go (same? (open-number n k) 0)
+  where
+    go : (open-number n k ≡ 0) ⊎ (open-number n k ≢ 0) → OpenGood lent n k
+    go (inl z) =
+        let q = zero-unless (among 50 n) 31 (unless (among 32 k) 51 0) (omega arith) (unfold open-number in z) in
+        let r = zero-unless (among 32 k) 51 0 (omega arith) (q .1) in
+        record { size-in = among-true 50 n (q .0); shares-in = among-true 32 k (r .0); left = rw (eqb-eq _ _ z) }
+    go (inr z) = absurd (let r = rw (eqb-ne _ _ z) at e in let y : _≡_ {A = ℕ} 0 1 = cc in omega arith)
+
+-- ---- the theorem, from the opened book
 
 module _ (n k : ℕ) (N : Edge 50 n) (K : Edge 32 k) (calls : List Call) where
   abbrev b : Book
@@ -100,6 +115,10 @@ module _ (n k : ℕ) (N : Edge 50 n) (K : Edge 32 k) (calls : List Call) where
   counts : report-answer b ≡ Progress (length C) (complete b)
   unfolding report-answer
   counts = rw (facts-sound b (ledger .is-sound), ledger .total)
+
+  -- the report says complete exactly if the book is
+  says-complete : (report-answer b ≡ Progress (length C) true) ↔ (complete b ≡ true)
+  says-complete = (λ e. (let q = sym counts ∙ e in cc), λ c. counts ∙ ap (Progress (length C)) c)
 
   complete-exactly : (complete b ≡ true) ↔ ((j : ℕ) → Edge k j → Finished n k C j)
   complete-exactly = (
@@ -132,53 +151,68 @@ module _ (n k : ℕ) (N : Edge 50 n) (K : Edge 32 k) (calls : List Call) where
     to = rw (ledger .sized, ledger .shared) at (ticket-unfinished b t j (ledger .is-sound) T);
   }
 
-  due-in-place : (j : ℕ) → Holds n k j (next b j) → InPlace n (next b j)
-  due-in-place j H = in-place n N (next b j) (held-in n k some j (next b j) H)
+  is-due : (t : ℕ) → Stands b t (holder b t) → Due n k b C t (holder b t) (next b (holder b t))
+  is-due t T =
+      let j = holder b t in
+      let H = due-held t j T in
+      record {
+        sized = ledger .sized;
+        stands = T .is;
+        is-next = refl;
+        held = H;
+        not-yet = next-uncommitted ledger j H;
+        all-before = λ q l u. ledger .to-list j q (H .share) l u;
+        in-place = in-place n N (next b j) (held-in n k some j (next b j) H);
+      }
 
+  -- what an accepted take leaves in a list
   listed-over : (tick t l0 l1 lw : ℕ) (x a : List ℕ) → take-number b tick t l0 l1 lw ≡ 0 → take-list b tick t l0 l1 lw x a ≡ over x a
   unfolding take-list
   listed-over tick t l0 l1 lw x a e = rw (eqb-eq _ _ e)
 
-  -- of the share where the ticket stands
-  gives : (tick t : ℕ) (s0 s1 word : List ℕ) (m : ℕ) → take-number b tick t (length s0) (length s1) (length word) ≡ 0 → Stands b t (holder b t)
-      → m ≡ length (wordAt (b .size) (next b (holder b t))) → Gives n k b C tick t s0 s1 word (holder b t) (next b (holder b t)) m
-  gives tick t s0 s1 word m z T e =
-      let H = due-held t (holder b t) T in
-      record {
-        stands = T .is;
-        held = H;
-        not-yet = next-uncommitted ledger (holder b t) H;
-        all-before = λ q l u. ledger .to-list (holder b t) q (H .share) l u;
-        in-place = due-in-place (holder b t) H;
-        word-length = rw (ledger .sized) at e;
-        s0-after = listed-over tick t _ _ _ _ s0 z;
-        s1-after = listed-over tick t _ _ _ _ s1 z;
-        word-after = listed-over tick t _ _ _ _ word z;
+  takes : (tick t : ℕ) (s0 s1 word : List ℕ) (j p m : ℕ) (b′ : Book) (c0 c1 cw : List ℕ) → Taken b tick t s0 s1 word (Given j p m) b′ c0 c1 cw → Gives n k b C t s0 s1 word j p m c0 c1 cw
+  unfolding due
+  takes tick t s0 s1 word j p m b′ c0 c1 cw T =
+      let G = take-good b tick t (length s0) (length s1) (length word) j p m (sym (T .answered)) in
+      let z = ledger .sized in
+      rw (G .share-is, G .position-is) record {
+        due = is-due t (G .good .stands);
+        word-length = rw z at (G .length-is);
+        written = record {
+          s0-written = rw z at (T .s0-is ∙ listed-over tick t _ _ _ _ s0 (G .number));
+          s1-written = rw z at (T .s1-is ∙ listed-over tick t _ _ _ _ s1 (G .number));
+          word-written = rw z at (T .word-is ∙ listed-over tick t _ _ _ _ word (G .number));
+        };
       }
 
-  takes : (tick t : ℕ) (s0 s1 word : List ℕ) (j p m : ℕ) → take-answer b tick t (length s0) (length s1) (length word) ≡ Given j p m → Gives n k b C tick t s0 s1 word j p m
-  takes tick t s0 s1 word j p m e =
-      let G = take-good b tick t (length s0) (length s1) (length word) j p m e in
-      rw (G .share-is, G .position-is) (gives tick t s0 s1 word m (G .number) (G .good .stands) (G .length-is))
+  -- a share that moves on, whether its ticket ends or not
+  moved-on : (tick t : ℕ) → Stands b t (holder b t) → next (moved b tick (holder b t)) (holder b t) ≡ suc (next b (holder b t))
+  unfolding moved
+  moved-on tick t T = go (finished (entered b tick (b .issued) j (suc (next b j)) (ticket b j) (at (b .expiry) j)) j)
+    where
+      j : ℕ
+      j = holder b t
 
-  named-one : (tick t p : ℕ) → commit-number b tick t p ≡ 0 → named b (commit tick t p) ≡ p ∷ []
-  named-one tick t p e = rw (eqb-eq _ _ e)
+      i : Edge 32 j
+      i = let z = ledger .is-sound .shares-in in let y = T .share-in in omega arith
 
-  records : (tick t p : ℕ) → commit-answer b tick t p ≡ Committed → InPlace n p × (¬ Has p C) × (commits (opened n k) (calls ++ (commit tick t p ∷ [])) ≡ C ++ (p ∷ []))
+      go : (test : Bool)
+          → next (pick test (entered b tick (b .issued) j (suc (next b j)) 0 0) (entered b tick (b .issued) j (suc (next b j)) (ticket b j) (at (b .expiry) j))) j ≡ suc (next b j)
+      go true = entered-next b tick (b .issued) j (suc (next b j)) 0 0 (ledger .long) i
+      go false = entered-next b tick (b .issued) j (suc (next b j)) (ticket b j) (at (b .expiry) j) (ledger .long) i
+
+  records : (tick t p : ℕ) → commit-answer b tick t p ≡ Committed → Records n k b C t p (commit-book b tick t p)
+  unfolding commit-book
   records tick t p e =
       let z = committed-number b tick t p e in
       let G = commit-good n k b C ledger tick t p z in
-      let H = due-held t (holder b t) (G .good .stands) in (
-        rw (G .names) (due-in-place (holder b t) H),
-        rw (G .names) (next-uncommitted ledger (holder b t) H),
-        commits-snoc (opened n k) calls (commit tick t p) ∙ ap (λ (l : List ℕ). C ++ l) (named-one tick t p z),
-      )
+      rw (eqb-eq _ _ z) (rw (G .names) record { share = holder b t; due = is-due t (G .good .stands); moved-on = moved-on tick t (G .good .stands) })
 
-  first-list : FirstList n k calls b C
+  first-list : FirstList n k b C
   first-list = record {
-    counts = counts;
-    complete-exactly = complete-exactly;
-    whole-exactly = (each-once, once-complete);
+    counts = (complete b, counts);
+    complete-exactly = (λ e. complete-exactly .0 (says-complete .0 e), λ f. says-complete .1 (complete-exactly .1 f));
+    whole-exactly = (λ e. each-once (says-complete .0 e), λ E. says-complete .1 (once-complete E));
     never-twice = ledger .once;
     no-class-twice = λ p q h i. class-once n N p q (committed-in p h) (committed-in q i);
     in-place = λ p h. in-place n N p (committed-in p h);
@@ -187,4 +221,4 @@ module _ (n k : ℕ) (N : Edge 50 n) (K : Edge 32 k) (calls : List Call) where
   }
 
 pub first-list-holds : FirstListHolds
-first-list-holds = first-list
+first-list-holds lent n k e calls = let G = open-good lent n k e in rw (G .left) (first-list n k (G .size-in) (G .shares-in) calls)

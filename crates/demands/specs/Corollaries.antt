@@ -9,11 +9,12 @@ use lib.ListN.{length}
 use Rattle.lists.specs.Lists.{Has}
 use Rattle.lists.specs.Ranges.{Edge}
 use Rattle.book.specs.declared.types.Book.{Book}
+use Rattle.book.specs.declared.types.Opening.the-variants.{Opened}
 use Rattle.book.specs.declared.types.Taking.the-variants.{Given}
 use Rattle.book.specs.declared.types.Committing.the-variants.{Committed}
 use Rattle.book.specs.declared.types.Releasing.the-variants.{Released}
 use Rattle.book.specs.Shares.{next, ticket, expiry, committed, holder, lapsed, first}
-use Rattle.book.specs.Calls.{opened, take-answer, commit-answer, release-answer, release-book}
+use Rattle.book.specs.Calls.{open-answer, open-book, take-answer, commit-answer, release-answer, release-book}
 use Rattle.book.specs.Holding.{Holds}
 use Rattle.demands.specs.FirstList.{Call, afterAll, commits}
 
@@ -43,4 +44,6 @@ pub record Corollaries (n k : ℕ) (b : Book) (C : List ℕ) : Type 0 where
   pub never-falls : (more : List Call) → committed b ≤ committed (afterAll b more)
 
 abbrev pub CorollariesHold : Type 0
-CorollariesHold = (n k : ℕ) → Edge 50 n → Edge 32 k → (calls : List Call) → Corollaries n k (afterAll (opened n k) calls) (commits (opened n k) calls)
+CorollariesHold =
+    (lent : Book) (n k : ℕ) → open-answer n k ≡ Opened
+    → (calls : List Call) → Corollaries n k (afterAll (open-book lent n k) calls) (commits (open-book lent n k) calls)

@@ -1,5 +1,6 @@
 -- Demand 3, the first list (document 01, "The lists of demand 3"): every list of claims, takes, commits, releases and reports, in any number
--- and order, with any arguments, accepted or refused, from a newly opened book; each call is given the book that the preceding one left.
+-- and order, with any arguments, accepted or refused, from the book that an accepted open left; each call is given the book that the preceding
+-- one left.
 -- The answers and the books after are the functions that the operations' own contracts name (crate book, Calls).
 --
 --   Call                   one call with its arguments; the lists of a take are as they were lent
@@ -8,31 +9,38 @@
 --   named b call           the position that the call commits, if it is an accepted commit
 --   commits b calls        the positions named by the accepted commits of the list, in order
 --   Finished n k C j       each position that share j holds stands in C
+--   IsAt n s0 s1 root p    the diagram at p is isomorphic, with roots, to the given one
 --   EachOnce n C           every rooted diagram of size n has, up to root-keeping isomorphism, exactly one diagram at a position of C
--- and from elsewhere: opened, take-answer, ..  (book, Calls); Holds n k j p, share j of k holds position p (book, Holding);
--- diagramAt n p, wordAt n p (counting); Accepts, RootAlike (diagrams); Characteristic (Demand2); Has, Apart (lists).
+--   InPlace n p            the diagram at p is one of size n in its characteristic labelling, and its word is the p-th
+--   Due n k b C t j p      p is the position that share j, where the ticket t stands, has to go on with
+--   Gives .., Records ..   what an accepted take gives and leaves; what an accepted commit tells and leaves
+-- and from elsewhere: open-book, commit-answer, .. (book, Calls); Taken, the promise of take (book, Taken); Holds n k j p, share j of k holds
+-- position p (book, Holding); diagramAt n p, wordAt n p (counting); Written (words, Outputs); Accepts, RootAlike (diagrams);
+-- Characteristic (Demand2); Has, Apart (lists).
 use mathlib.Core.Path.{_≡_}
 use mathlib.Core.Logic.{_↔_}
-use mathlib.Core.Bool.{true}
+use mathlib.Core.Bool.{Bool, true}
 use mathlib.Core.List.{List, [], _∷_, _++_}
-use Prim.Native.Nat.{ℕ, _≤_, _<_}
+use Prim.Native.Nat.{ℕ, suc, _≤_, _<_}
 use lib.Dec.{eqb}
 use lib.ListN.{length}
 use Rattle.lists.specs.Lists.{pick, Has, Apart}
 use Rattle.lists.specs.Ranges.{Edge}
 use Rattle.diagrams.specs.Isomorphism.{RootAlike}
 use Rattle.diagrams.specs.Check.{Accepts}
-use Rattle.words.specs.Outputs.{over}
+use Rattle.words.specs.Outputs.{Written}
 use Rattle.labelling.specs.Labelling.{wordOf}
 use Rattle.counting.specs.Listing.{count}
 use Rattle.counting.specs.Position.{wordAt}
 use Rattle.counting.specs.Diagrams.{diagramAt}
 use Rattle.book.specs.declared.types.Book.{Book}
+use Rattle.book.specs.declared.types.Opening.the-variants.{Opened}
 use Rattle.book.specs.declared.types.Taking.the-variants.{Given}
 use Rattle.book.specs.declared.types.Committing.the-variants.{Committed}
 use Rattle.book.specs.declared.types.Reporting.the-variants.{Progress}
-use Rattle.book.specs.Shares.{ticket, complete, first}
-use Rattle.book.specs.Calls.{opened, claim-book, take-answer, take-book, take-list, commit-number, commit-answer, commit-book, release-book, report-answer}
+use Rattle.book.specs.Shares.{next, ticket, first}
+use Rattle.book.specs.Calls.{open-answer, open-book, claim-book, take-book, commit-number, commit-answer, commit-book, release-book, report-answer}
+use Rattle.book.specs.Taken.{Taken}
 use Rattle.book.specs.Holding.{Holds}
 use Rattle.demands.specs.Demand2.{Characteristic}
 
@@ -83,37 +91,50 @@ pub record InPlace (n p : ℕ) : Type 0 where
   pub sized : length (diagramAt n p .black) ≡ n
   pub its-word : wordOf (diagramAt n p .black) (diagramAt n p .white) 1 ≡ wordAt n p
 
--- what an accepted take gives and writes, C being committed before it: the share j where its ticket stands, j's first position p that is
--- not in C, and that position's diagram and word
-pub record Gives (n k : ℕ) (b : Book) (C : List ℕ) (tick t : ℕ) (s0 s1 word : List ℕ) (j p m : ℕ) : Type 0 where
+-- the position p is due at the ticket t in the book b, C being committed so far: share j is where the ticket stands, p is j's next position in
+-- the book, and it is the first position of j that is not in C
+pub record Due (n k : ℕ) (b : Book) (C : List ℕ) (t j p : ℕ) : Type 0 where
+  pub sized : b .size ≡ n
   pub stands : ticket b j ≡ t
+  pub is-next : next b j ≡ p
   pub held : Holds n k j p
   pub not-yet : ¬ Has p C
   pub all-before : (q : ℕ) → first n k j ≤ q → q < p → Has q C
   pub in-place : InPlace n p
-  pub word-length : m ≡ length (wordAt n p)
-  pub s0-after : take-list b tick t (length s0) (length s1) (length word) (diagramAt n p .black) s0 ≡ over (diagramAt n p .black) s0
-  pub s1-after : take-list b tick t (length s0) (length s1) (length word) (diagramAt n p .white) s1 ≡ over (diagramAt n p .white) s1
-  pub word-after : take-list b tick t (length s0) (length s1) (length word) (wordAt n p) word ≡ over (wordAt n p) word
 
--- The theorem, for the list `calls` from the opened book of size n in k shares: b is the book it leaves, C what it has committed.
-pub record FirstList (n k : ℕ) (calls : List Call) (b : Book) (C : List ℕ) : Type 0 where
-  -- the report then gives the number of accepted commits of the list
-  pub counts : report-answer b ≡ Progress (length C) (complete b)
+-- what an accepted take gives, and what it leaves in the lists s0, s1 and word, which are c0, c1 and cw afterwards
+pub record Gives (n k : ℕ) (b : Book) (C : List ℕ) (t : ℕ) (s0 s1 word : List ℕ) (j p m : ℕ) (c0 c1 cw : List ℕ) : Type 0 where
+  pub due : Due n k b C t j p
+  pub word-length : m ≡ length (wordAt n p)
+  pub written : Written (diagramAt n p) (wordAt n p) s0 s1 word c0 c1 cw
+
+-- what an accepted commit of p tells of the book b before it and leaves in the book b′: p was due, and its share has moved on by one
+pub record Records (n k : ℕ) (b : Book) (C : List ℕ) (t p : ℕ) (b′ : Book) : Type 0 where
+  pub share : ℕ
+  pub due : Due n k b C t share p
+  pub moved-on : next b′ share ≡ suc p
+
+-- The theorem, for a list of calls from a book of size n in k shares: b is the book that it leaves, C what it has committed.
+pub record FirstList (n k : ℕ) (b : Book) (C : List ℕ) : Type 0 where
+  -- the report then gives the number of accepted commits of the list, and says complete or not
+  pub counts : (says : Bool) × (report-answer b ≡ Progress (length C) says)
   -- it says complete exactly when every share is finished
-  pub complete-exactly : (complete b ≡ true) ↔ ((j : ℕ) → Edge k j → Finished n k C j)
+  pub complete-exactly : (report-answer b ≡ Progress (length C) true) ↔ ((j : ℕ) → Edge k j → Finished n k C j)
   -- and that is so exactly when every rooted diagram of the size has been committed once, in its characteristic labelling
-  pub whole-exactly : (complete b ≡ true) ↔ EachOnce n C
+  pub whole-exactly : (report-answer b ≡ Progress (length C) true) ↔ EachOnce n C
   -- no position, and so no diagram, is ever committed twice, complete or not
   pub never-twice : Apart C
   pub no-class-twice : (p q : ℕ) → Has p C → Has q C → RootAlike (diagramAt n p .black) (diagramAt n p .white) 1 (diagramAt n q .black) (diagramAt n q .white) 1 → p ≡ q
   -- what is committed are diagrams of the size in characteristic labelling
   pub in-place : (p : ℕ) → Has p C → InPlace n p
-  -- a take that comes after these calls and is accepted gives its share's first position that is not yet committed, and writes its diagram
-  pub takes : (tick t : ℕ) (s0 s1 word : List ℕ) (j p m : ℕ) → take-answer b tick t (length s0) (length s1) (length word) ≡ Given j p m → Gives n k b C tick t s0 s1 word j p m
-  -- a commit that comes after these calls and is accepted records the diagram whose position it names, one not committed before
-  pub records : (tick t p : ℕ) → commit-answer b tick t p ≡ Committed → InPlace n p × (¬ Has p C) × (commits (opened n k) (calls ++ (commit tick t p ∷ [])) ≡ C ++ (p ∷ []))
+  -- whatever an accepted take after these calls answers and leaves by its promise: it gives the position that is due at its ticket, and c0, c1
+  -- and cw are that position's diagram and word written over the lists that were lent
+  pub takes : (tick t : ℕ) (s0 s1 word : List ℕ) (j p m : ℕ) (b′ : Book) (c0 c1 cw : List ℕ) → Taken b tick t s0 s1 word (Given j p m) b′ c0 c1 cw → Gives n k b C t s0 s1 word j p m c0 c1 cw
+  -- a commit after these calls that is accepted names the position that is due at its ticket, and moves the share on by one
+  pub records : (tick t p : ℕ) → commit-answer b tick t p ≡ Committed → Records n k b C t p (commit-book b tick t p)
 
--- The first list of demand 3: for sizes 1 to 50, 1 to 32 shares and every list of calls.
+-- The first list of demand 3: for every accepted open, whatever book was lent to it, and every list of calls from the book that it left.
 abbrev pub FirstListHolds : Type 0
-FirstListHolds = (n k : ℕ) → Edge 50 n → Edge 32 k → (calls : List Call) → FirstList n k calls (afterAll (opened n k) calls) (commits (opened n k) calls)
+FirstListHolds =
+    (lent : Book) (n k : ℕ) → open-answer n k ≡ Opened
+    → (calls : List Call) → FirstList n k (afterAll (open-book lent n k) calls) (commits (open-book lent n k) calls)
