@@ -1,4 +1,6 @@
 -- What take, commit and release learn by asking first: the share where the ticket stands, or the refusal that comes before their own.
+--
+--   Asking b tick t asked      asked is the share where the ticket t stands, or the number of the refusal: 50, 52, 58 or 59
 use mathlib.Core.Path.{_≡_}
 use mathlib.Core.Logic.{_≢_}
 use Prim.Native.Nat.{ℕ}

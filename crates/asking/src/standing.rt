@@ -20,14 +20,14 @@ pub enum Asked {
 }
 
 // The tick is neither below the latest nor 2^48 and above.
-pub fn tick_in(latest: u64, tick: u64) -> bool
+pub(crate) fn tick_in(latest: u64, tick: u64) -> bool
     ensures { λ r. ⌜ r ≡ both (leb latest tick) (ltb tick (2 ^ 48)) ⌝ }
 {
     both(latest <= tick, tick < 281474976710656)
 }
 
 // The share where the ticket stands, 0 where it stands at none.
-pub fn holder(h: Heads, tickets: &[u64], ticket: u64) -> u64
+fn holder(h: Heads, tickets: &[u64], ticket: u64) -> u64
     requires { ⌜ (h .shares ≤ 32) × (length (now tickets) ≡ 32) ⌝ }
     ensures { λ r. ⌜ ((p e : List ℕ) → r ≡ holder (bookWith h p (now (tickets .entry)) e) ticket) ⌝ }
 {

@@ -1,5 +1,20 @@
 -- What each operation of the share book answers and the book that it leaves, as functions of the book and the arguments (document 01,
--- "Share book"). A `..-number` is 01's number of the refusal, 0 where the call is accepted; a refused call leaves the book as it was.
+-- "Share book"). A refused call leaves the book as it was.
+--
+--   unless t k rest            the number k where the test t fails, otherwise rest; 01's conditions in 01's order are a chain of these
+--   open-number ..             the number of the first condition that applies to an open, 0 where none does; so for claim, take, commit, release
+--   open-answer ..             the answer of an open: accepted with its values, or refused with that number; so for the others and the report
+--   open-book ..               the book that an open leaves; so for claim, take, commit and release. The report alters nothing
+--   opened n k                 the book of size n in k shares, each at its first position, without tickets
+--   entered b tick issues j p t e   the book b with the next position p, the ticket t and the expiry e at share j, that latest tick, those issued
+--   ticked b tick              the book b with that latest tick
+--   tick-in b tick             the tick is not below the latest, and below 2^48 (refusal 52)
+--   held b j tick              a ticket stands at share j and has not lapsed (refusal 56)
+--   ticket-number b tick t rest     what take, commit and release ask first: 50, 52, 58, 59
+--   due b t                    the next position of the share where the ticket t stands
+--   room n l0 l1 lw            lists of these lengths hold a diagram of n edges and its word (refusal 9)
+--   take-list .. x a           what a take leaves in the lent list a, of which it writes x over the beginning where it is accepted
+--   moved b tick j             the book b with share j moved on by one; past the last position its ticket ends
 use mathlib.Core.Path.{_≡_}
 use mathlib.Core.Bool.{Bool, true, false}
 use mathlib.Core.List.{List, []}

@@ -1,9 +1,10 @@
 -- Which positions a share holds (document 01, "Share book").
+--
+--   Holds n k j p         share j of k holds the position p of size n
 use Prim.Native.Nat.{ℕ, _≤_}
 use Rattle.lists.specs.Ranges.{Edge}
 use Rattle.book.specs.Shares.{first, last}
 
--- share j of k holds the position p of size n
 pub record Holds (n k j p : ℕ) : Type 0 where
   pub share : Edge k j
   pub from : first n k j ≤ p

@@ -1,3 +1,4 @@
+pub mod Answers
 pub mod Shares
 pub mod Holding
 pub mod Sound

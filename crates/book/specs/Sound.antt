@@ -1,4 +1,15 @@
 -- A sound book, each condition of refusal 50 by name (document 01, "Share book").
+--
+--   in-range b            the size is 1..50 and the number of shares 1..32
+--   counters-in b         at most 65,535 tickets issued, and the latest tick is below 2^48
+--   next-in b j           share j's next position is in the share or just past it
+--   finished-free b j     share j has no ticket if it is finished
+--   ticket-once b j       share j's ticket, if it has one, stands at no share before
+--   ticket-issued b j     share j's ticket is not above those issued
+--   expiry-in b j         share j's expiry is 0 without a ticket, and at most 65,535 beyond the latest tick
+--   share-sound b j       the last five of share j;  entry-unused b j, entry j of the three lists is 0
+--   entries-sound b       the shares 1..k are sound, and the entries after them unused
+--   sound b               all of it: the book is not refused 50
 use mathlib.Core.Bool.{Bool, true, false}
 use Prim.Native.Nat.{ℕ, zero, suc, _+_, _-_, _^_}
 use lib.Dec.{eqb, leb, ltb}

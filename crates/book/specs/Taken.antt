@@ -1,4 +1,6 @@
--- What take promises. Lists named a are as they were lent, lists named c as they are handed back.
+-- What take promises (document 01, "Take"). Lists named a are as they were lent, lists named c as they are handed back.
+--
+--   Taken b tick t a0 a1 aw answer b′ c0 c1 cw      the answer, the book b′ and the lists that a take leaves, from the book b and the lists before it
 use mathlib.Core.Path.{_≡_}
 use mathlib.Core.List.{List}
 use Prim.Native.Nat.{ℕ}

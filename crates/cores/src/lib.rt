@@ -14,6 +14,7 @@ use book::TakeDone;
 use books::changed;
 use books::heads;
 use books::opened;
+use diagrams::Diagram;
 use soundness::tests::among;
 ghost use mathlib.Core.Path.{_≡_};
 ghost use Rattle.book.specs.Taken.{Taken};
@@ -22,7 +23,7 @@ ghost use Rattle.book.specs.Calls.{open-answer, open-book, claim-answer, claim-
 pub fn open_core(b: Book, size: u64, k: u64) -> OpenDone
     ensures { λ r. ⌜ (r .answer ≡ open-answer size k) × (r .book ≡ open-book b size k) ⌝ }
 {
-    if !among(50, size) {
+    if !among(Diagram::MAX_LISTED as u64, size) {
         return OpenDone {
             answer: Opening::Refused(31),
             book: b,

@@ -1,4 +1,4 @@
--- The invariants of document 01's four diagrams of size 3, in the order of its table, and of a torus, whose t is 12: computed.
+-- The invariants of a torus, whose t is 12, computed. (Those of 01's four diagrams of size 3 are stated in crate demands, Table.)
 use mathlib.Core.Path.{_≡_, refl}
 use mathlib.Core.List.{List, [], _∷_}
 use Prim.Native.Nat.{ℕ}
@@ -14,22 +14,6 @@ record Invariants (s0 s1 : List ℕ) (a b d : ℕ) (s : ℤ) (l : ℕ) : Type 0 
   c-is : c (length s0) (at s0) (at s1) ≡ d
   t-is : t (length s0) (at s0) (at s1) ≡ s
   level-is : level (length s0) (at s0) (at s1) ≡ l
-
-TWWW : Invariants (2 ∷ 3 ∷ 1 ∷ []) (1 ∷ 2 ∷ 3 ∷ []) 3 0 1 (pos 0) 3
-unfolding fixes cycles longest period least t
-TWWW = record { e2-is = refl; e3-is = refl; c-is = refl; t-is = refl; level-is = refl }
-
-TWJ0 : Invariants (2 ∷ 3 ∷ 1 ∷ []) (2 ∷ 1 ∷ 3 ∷ []) 1 0 2 (pos 0) 2
-unfolding fixes cycles longest period least t
-TWJ0 = record { e2-is = refl; e3-is = refl; c-is = refl; t-is = refl; level-is = refl }
-
-TJ0W : Invariants (2 ∷ 3 ∷ 1 ∷ []) (1 ∷ 3 ∷ 2 ∷ []) 1 0 2 (pos 0) 2
-unfolding fixes cycles longest period least t
-TJ0W = record { e2-is = refl; e3-is = refl; c-is = refl; t-is = refl; level-is = refl }
-
-TJ1W : Invariants (2 ∷ 3 ∷ 1 ∷ []) (3 ∷ 2 ∷ 1 ∷ []) 1 0 2 (pos 0) 2
-unfolding fixes cycles longest period least t
-TJ1W = record { e2-is = refl; e3-is = refl; c-is = refl; t-is = refl; level-is = refl }
 
 -- two triangles, each edge joined to one of the other: one cycle through all six
 torus : Invariants (2 ∷ 3 ∷ 1 ∷ 5 ∷ 6 ∷ 4 ∷ []) (4 ∷ 5 ∷ 6 ∷ 1 ∷ 2 ∷ 3 ∷ []) 0 0 1 (pos 12) 6

@@ -14,6 +14,7 @@ use Rattle.lists.specs.Ranges.{Edge}
 use Rattle.diagrams.specs.Diagram.{Reached}
 use Rattle.diagrams.specs.declared.Verdict.{Verdict}
 use Rattle.diagrams.specs.declared.Verdict.the-variants.{Accepted, Refused}
+use Rattle.diagrams.specs.Answers.{check-number}
 
 -- 1: the length of s0 is 1 to 1,024
 abbrev pub Size : List ℕ → Type 0
@@ -63,10 +64,10 @@ pub data Refuses (s0 s1 : List ℕ) (root : ℕ) : ℕ → Type 0 where
   no-twice : Size s0 → Lengths s0 s1 → Root s0 root → Entries (length s0) s0 → Entries (length s0) s1 → Thrice s0 → ¬ Twice s1 → Refuses s0 s1 root 7
   no-path : Size s0 → Lengths s0 s1 → Root s0 root → Entries (length s0) s0 → Entries (length s0) s1 → Thrice s0 → Twice s1 → ¬ Connected s0 s1 → Refuses s0 s1 root 8
 
--- the answer's cases, with 01's number where it refuses
+-- by the answer's cases; where it refuses, its number is 01's
 abbrev pub Checked : List ℕ → List ℕ → ℕ → Verdict → Type 0
 Checked s0 s1 root Accepted = Accepts s0 s1 root
-Checked s0 s1 root (Refused k) = Refuses s0 s1 root k
+Checked s0 s1 root (Refused k) = Refuses s0 s1 root (check-number (Refused k))
 
 abbrev pub AllOne : List ℕ → Type 0
 AllOne marks = (i : ℕ) → i < length marks → getD marks i 0 ≡ 1

@@ -1,3 +1,4 @@
+pub mod Answers
 pub mod Diagram
 pub mod Isomorphism
 pub mod Check

@@ -1,4 +1,7 @@
 -- What invariants promises (document 01, "Invariants"), by the cases of its answer; a refusal's number is 01's, 1 to 8.
+--
+--   Invariants s0 s1 r      the numbers r are the invariants of the diagram given as the lists s0 and s1
+--   Measures s0 s1 root a   the promise of `invariants`
 use mathlib.Core.Path.{_≡_}
 use mathlib.Core.List.{List}
 use Prim.Native.Nat.{ℕ}
@@ -9,8 +12,8 @@ use Rattle.cycles.specs.Cycles as cycles
 use Rattle.invariants.specs.declared.Numbers.{Numbers}
 use Rattle.invariants.specs.declared.Measured.{Measured}
 use Rattle.invariants.specs.declared.Measured.the-variants.{Known, Refused}
+use Rattle.invariants.specs.Answers.{invariants-number}
 
--- the numbers are the invariants of the diagram given as the lists s0 and s1
 pub record Invariants (s0 s1 : List ℕ) (r : Numbers) : Type 0 where
   pub e2-is : r .e2 ≡ cycles.e2 (length s0) (at s0) (at s1)
   pub e3-is : r .e3 ≡ cycles.e3 (length s0) (at s0) (at s1)
@@ -20,4 +23,4 @@ pub record Invariants (s0 s1 : List ℕ) (r : Numbers) : Type 0 where
 
 abbrev pub Measures : List ℕ → List ℕ → ℕ → Measured → Type 0
 Measures s0 s1 root (Known r) = Accepts s0 s1 root × Invariants s0 s1 r
-Measures s0 s1 root (Refused k) = Refuses s0 s1 root k
+Measures s0 s1 root (Refused k) = Refuses s0 s1 root (invariants-number (Refused k))

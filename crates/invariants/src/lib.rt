@@ -29,13 +29,13 @@ pub enum Measured {
 }
 
 // How many cycles there are, and how many edges the longest has.
-pub struct Cycles {
+struct Cycles {
     pub count: u16,
     pub longest: u16,
 }
 
 // How many edges the list fixes.
-pub fn fixed(s: &[u16]) -> u16
+fn fixed(s: &[u16]) -> u16
     requires { ⌜ length (now s) ≤ 1024 ⌝ }
     ensures { λ r. ⌜ r ≡ fixes (length (now (s .entry))) (at (now (s .entry))) ⌝ }
 {
@@ -62,7 +62,7 @@ fn onward(s0: &[u16], s1: &[u16], x: usize) -> usize
 }
 
 // Marks the cycle of edge i, and counts its edges.
-fn walk(s0: &[u16], s1: &[u16], seen: &mut [u8; 1024], i: usize) -> u16
+fn walk(s0: &[u16], s1: &[u16], seen: &mut [u8; Diagram::MAX_SIZE], i: usize) -> u16
     requires { ⌜ Mapped (now s0) (now s1) ⌝ }
     requires { ⌜ Edge (length (now s0)) i ⌝ }
     requires { ⌜ length (now seen) ≡ 1024 ⌝ }
@@ -88,7 +88,7 @@ fn larger(a: u16, b: u16) -> u16
 }
 
 // Walks round each cycle once, from the least of its edges, which is the first to be met without a mark.
-pub fn count_cycles(s0: &[u16], s1: &[u16]) -> Cycles
+fn count_cycles(s0: &[u16], s1: &[u16]) -> Cycles
     requires { ⌜ Mapped (now s0) (now s1) ⌝ }
     ensures { λ r. ⌜ r .count ≡ cycles (length (now (s0 .entry))) (around (at (now (s0 .entry))) (at (now (s1 .entry)))) ⌝ }
     ensures { λ r. ⌜ r .longest ≡ longest (length (now (s0 .entry))) (around (at (now (s0 .entry))) (at (now (s1 .entry)))) ⌝ }
@@ -110,7 +110,7 @@ pub fn count_cycles(s0: &[u16], s1: &[u16]) -> Cycles
 }
 
 // 12 + n - 3 e2 - 4 e3 - 6 c
-pub fn t(n: usize, e2: usize, e3: usize, c: usize) -> i32
+fn t(n: usize, e2: usize, e3: usize, c: usize) -> i32
     requires { ⌜ (n ≤ 1024) × (e2 ≤ n) × (e3 ≤ n) × (c ≤ n) ⌝ }
     ensures { λ r. ⌜ r ≡ subℕ (12 + n) (3 * e2 + 4 * e3 + 6 * c) ⌝ }
 {
@@ -120,7 +120,7 @@ pub fn t(n: usize, e2: usize, e3: usize, c: usize) -> i32
 }
 
 // The invariants of a diagram that is known to be one.
-pub fn measure(s0: &[u16], s1: &[u16]) -> Numbers
+fn measure(s0: &[u16], s1: &[u16]) -> Numbers
     requires { ⌜ Mapped (now s0) (now s1) ⌝ }
     ensures { λ r. ⌜ Invariants (now (s0 .entry)) (now (s1 .entry)) r ⌝ }
 {

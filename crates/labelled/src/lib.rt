@@ -1,4 +1,4 @@
 // The labelling of a diagram carried out in lent arrays, proved to be the labelling of the crate `labelling`.
-pub mod events;
+mod events;
 pub mod tracing;
 pub mod writing;

@@ -11,7 +11,7 @@ ghost use Rattle.labelled.specs.Scratch.{Ready};
 ghost use Rattle.labelled.specs.Traced.{goesOn, Traced, Followed};
 
 // How many items were written, and how many labels given meanwhile.
-pub struct Extent {
+struct Extent {
     pub len: usize,
     pub given: u16,
 }

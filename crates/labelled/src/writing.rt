@@ -43,7 +43,7 @@ pub fn write_word(
 }
 
 // Takes the labels back, the last given first.
-pub fn take_back(labels: &mut [u16; 1025], order: &[u16; 1025], given: u16)
+pub(crate) fn take_back(labels: &mut [u16; 1025], order: &[u16; 1025], given: u16)
     requires { ⌜ HoldsSome (now labels) (now order) given ⌝ }
     ensures { λ _. ⌜ Holds (now (labels .exit)) (now (order .entry)) 0 [] ⌝ }
 {

@@ -8,4 +8,3 @@ pub mod WordsAlike
 pub mod Ended
 pub mod OfLists
 pub mod Rootings
-pub mod Examples

@@ -22,6 +22,7 @@ use Rattle.running.specs.declared.Run.{Run}
 use Rattle.running.specs.Promises.{given, finished, Stands, Over}
 use Rattle.listing.specs.declared.Listing.{Listing}
 use Rattle.listing.specs.declared.Listing.the-variants as listing
+use Rattle.listing.specs.Answers.{list-number, list-rows}
 use Rattle.listing.specs.Rows.{blacks, whites, flatWords, lengths}
 use Rattle.listing.specs.Filling.{Marked}
 
@@ -67,9 +68,11 @@ RefusedList run Short number =
 
 -- the run and the rows asked for, the lists before; the run and the lists after
 abbrev pub Lists : Run → ℕ → List ℕ → List ℕ → List ℕ → List ℕ → Run → List ℕ → List ℕ → List ℕ → List ℕ → Listing → Type 0
-Lists run rows a0 a1 aw al next b0 b1 bw bl (listing.Rows k) = NoRows run k next a0 a1 aw al b0 b1 bw bl ⊎ Gave run rows k next a0 a1 aw al b0 b1 bw bl
+Lists run rows a0 a1 aw al next b0 b1 bw bl (listing.Rows k) =
+    let given = list-rows (listing.Rows k) 0 in
+    NoRows run given next a0 a1 aw al b0 b1 bw bl ⊎ Gave run rows given next a0 a1 aw al b0 b1 bw bl
 Lists run rows a0 a1 aw al next b0 b1 bw bl (listing.Refused number) =
-    RefusedList run (λ n. ShortRows n rows a0 a1 aw al) number × (next ≡ run) × Same a0 a1 aw al b0 b1 bw bl
+    RefusedList run (λ n. ShortRows n rows a0 a1 aw al) (list-number (listing.Refused number)) × (next ≡ run) × Same a0 a1 aw al b0 b1 bw bl
 
 -- ---- with the keep marks: a listing, and the marks of its rows
 
@@ -80,6 +83,7 @@ pub record GaveMarked (run : Run) (rows k : ℕ) (next : Run) (a0 a1 aw al am b0
 
 abbrev pub ListsMarked : Run → ℕ → List ℕ → List ℕ → List ℕ → List ℕ → List ℕ → Run → List ℕ → List ℕ → List ℕ → List ℕ → List ℕ → Listing → Type 0
 ListsMarked run rows a0 a1 aw al am next b0 b1 bw bl bm (listing.Rows k) =
-    (NoRows run k next a0 a1 aw al b0 b1 bw bl × (bm ≡ am)) ⊎ GaveMarked run rows k next a0 a1 aw al am b0 b1 bw bl bm
+    let given = list-rows (listing.Rows k) 0 in
+    (NoRows run given next a0 a1 aw al b0 b1 bw bl × (bm ≡ am)) ⊎ GaveMarked run rows given next a0 a1 aw al am b0 b1 bw bl bm
 ListsMarked run rows a0 a1 aw al am next b0 b1 bw bl bm (listing.Refused number) =
-    RefusedList run (λ n. ShortRows n rows a0 a1 aw al ⊎ (length am < rows)) number × (next ≡ run) × Same a0 a1 aw al b0 b1 bw bl × (bm ≡ am)
+    RefusedList run (λ n. ShortRows n rows a0 a1 aw al ⊎ (length am < rows)) (list-number (listing.Refused number)) × (next ≡ run) × Same a0 a1 aw al b0 b1 bw bl × (bm ≡ am)

@@ -1,5 +1,11 @@
--- What count, diagram at a position and position of a diagram promise (document 01), by the cases of their answers; a refusal's number is 01's.
+-- What count, diagram at a position and position of a diagram promise (document 01), by the cases of their answers, whose
+-- number and values are those of specs/Answers.
 -- Lists named a are as they were lent, lists named b as they are handed back.
+--
+--   Counted n answer           the promise of count
+--   RefusedAt n p .. number    what diagram at a position refuses: 31, 32, 9
+--   Given n p .. answer        the promise of diagram at a position
+--   Located s0 s1 root answer  the promise of position of a diagram
 use mathlib.Core.Path.{_≡_}
 use mathlib.Core.Logic.{_⊎_}
 use mathlib.Core.List.{List}
@@ -18,11 +24,12 @@ use Rattle.positions.specs.declared.Entry.{Entry}
 use Rattle.positions.specs.declared.Entry.the-variants as entry
 use Rattle.positions.specs.declared.Place.{Place}
 use Rattle.positions.specs.declared.Place.the-variants as place
+use Rattle.positions.specs.Answers.{count-number, count-total, entry-number, entry-length, located-number, located-position}
 
 -- 31: the size is outside 1..50
 abbrev pub Counted : ℕ → Total → Type 0
-Counted n (total.Number c) = Edge 50 n × (c ≡ count n)
-Counted n (total.Refused k) = (k ≡ 31) × (¬ Edge 50 n)
+Counted n (total.Number c) = Edge 50 n × (count-total (total.Number c) 0 ≡ count n)
+Counted n (total.Refused k) = (count-number (total.Refused k) ≡ 31) × (¬ Edge 50 n)
 
 -- 31; 32: the position is 0 or above the count; 9
 abbrev pub RefusedAt : ℕ → ℕ → List ℕ → List ℕ → List ℕ → ℕ → Type 0
@@ -33,10 +40,12 @@ RefusedAt n p a0 a1 aw k =
 
 abbrev pub Given : ℕ → ℕ → List ℕ → List ℕ → List ℕ → List ℕ → List ℕ → List ℕ → Entry → Type 0
 Given n p a0 a1 aw b0 b1 bw (entry.Length m) =
-    Edge 50 n × Edge (count n) p × (¬ Short n a0 a1 aw) × (m ≡ length (wordAt n p)) × Written (diagramAt n p) (wordAt n p) a0 a1 aw b0 b1 bw
-Given n p a0 a1 aw b0 b1 bw (entry.Refused k) = RefusedAt n p a0 a1 aw k × Untouched a0 a1 aw b0 b1 bw
+    Edge 50 n × Edge (count n) p × (¬ Short n a0 a1 aw) × (entry-length (entry.Length m) 0 ≡ length (wordAt n p)) × Written (diagramAt n p) (wordAt n p) a0 a1 aw b0 b1 bw
+Given n p a0 a1 aw b0 b1 bw (entry.Refused k) = RefusedAt n p a0 a1 aw (entry-number (entry.Refused k)) × Untouched a0 a1 aw b0 b1 bw
 
 -- 1 to 8; 31
 abbrev pub Located : List ℕ → List ℕ → ℕ → Place → Type 0
-Located s0 s1 root (place.Number p) = Accepts s0 s1 root × Edge 50 (length s0) × (p ≡ position (length s0) (wordOf s0 s1 root))
-Located s0 s1 root (place.Refused k) = Refuses s0 s1 root k ⊎ ((k ≡ 31) × Accepts s0 s1 root × (¬ Edge 50 (length s0)))
+Located s0 s1 root (place.Number p) = Accepts s0 s1 root × Edge 50 (length s0) × (located-position (place.Number p) 0 ≡ position (length s0) (wordOf s0 s1 root))
+Located s0 s1 root (place.Refused k) =
+    let number = located-number (place.Refused k) in
+    Refuses s0 s1 root number ⊎ ((number ≡ 31) × Accepts s0 s1 root × (¬ Edge 50 (length s0)))

@@ -5,6 +5,7 @@ mod ranking;
 mod unranking;
 
 use canonical::Relabelling;
+use diagrams::Diagram;
 use lists::wide;
 ghost use mathlib.Core.Path.{_≡_};
 ghost use lib.ListN.{length};
@@ -50,7 +51,7 @@ pub fn count(n: u64) -> Total
     if n < 1 {
         return Total::Refused(31);
     }
-    if 50 < n {
+    if (Diagram::MAX_LISTED as u64) < n {
         return Total::Refused(31);
     }
     Total::Number(count_of(n))
@@ -75,7 +76,7 @@ pub fn diagram_at(n: u64, p: u64, s0: &mut [u16], s1: &mut [u16], word: &mut [u1
     if n < 1 {
         return Entry::Refused(31);
     }
-    if 50 < n {
+    if (Diagram::MAX_LISTED as u64) < n {
         return Entry::Refused(31);
     }
     if p < 1 {
@@ -102,9 +103,9 @@ pub fn diagram_at(n: u64, p: u64, s0: &mut [u16], s1: &mut [u16], word: &mut [u1
 pub fn position(s0: &[u16], s1: &[u16], root: u64) -> Place
     ensures { λ r. ⌜ Located (now (s0 .entry)) (now (s1 .entry)) root r ⌝ }
 {
-    let mut t0 = [0u16; 50];
-    let mut t1 = [0u16; 50];
-    let mut word = [0u16; 51];
+    let mut t0 = [0u16; Diagram::MAX_LISTED];
+    let mut t1 = [0u16; Diagram::MAX_LISTED];
+    let mut word = [0u16; Diagram::MAX_LISTED + 1];
     let relabelled = canonical::relabel(s0, s1, root, &mut t0, &mut t1, &mut word);
     match relabelled {
         Relabelling::Refused(k) => {

@@ -1,12 +1,8 @@
--- What the definition of read word answers: document 01's example (j), words at the edge of Jd, and the refusals in their order.
+-- What the definition of read word answers: words at the edge of Jd, and the refusals in their order. (25, document 01's example (j), stands in
+-- its table: crate demands, Table.)
 use mathlib.Core.Path.{_≡_, refl}
 use mathlib.Core.List.{[], _∷_}
 use Rattle.reading.specs.Read.{refused, built, items, read}
-
--- 01 (j): TW leaves edges pending
-pub TW : read (1 ∷ 0 ∷ []) ≡ refused 25
-unfolding read items
-TW = refl
 
 -- J0 joins the popped edge 3 to the top, J1 to the one below it
 pub TJ0W : read (1 ∷ 3 ∷ 0 ∷ []) ≡ built record { black = 2 ∷ 3 ∷ 1 ∷ []; white = 1 ∷ 3 ∷ 2 ∷ [] }

@@ -1,6 +1,7 @@
 // Reading a word: the diagram that it spells, or the number of the refusal (document 01, "Read word").
 // The items are read one by one into two local arrays; the lent lists are written only when the whole word is known to be good
 // and both lists to have room.
+use diagrams::Diagram;
 use lists::fill;
 use lists::wide;
 ghost use mathlib.Core.Path.{_≡_};
@@ -25,11 +26,8 @@ enum Step {
     Refused(u16),
 }
 
-// The largest size, and so the largest label.
-const MAX_SIZE: u16 = 1024;
-
 // Makes a and b each other's white partner.
-fn pair(x1: &mut [u16; 1024], a: u16, b: u16)
+fn pair(x1: &mut [u16; Diagram::MAX_SIZE], a: u16, b: u16)
     requires { ⌜ Edge 1024 a × Edge 1024 b ⌝ }
     ensures { λ _. ⌜ now (x1 .exit) ≡ put (put (now (x1 .entry)) a b) b a ⌝ }
 {
@@ -43,8 +41,8 @@ fn pair(x1: &mut [u16; 1024], a: u16, b: u16)
 fn start_alone(
     next: &mut [u16; 1025],
     prev: &mut [u16; 1025],
-    x0: &mut [u16; 1024],
-    x1: &mut [u16; 1024],
+    x0: &mut [u16; Diagram::MAX_SIZE],
+    x1: &mut [u16; Diagram::MAX_SIZE],
 )
     requires { ⌜ Ring (now next) (now prev) [] × (length (now x0) ≡ 1024) × (length (now x1) ≡ 1024) ⌝ }
     ensures { λ _. ⌜ Holds (now (next .exit)) (now (prev .exit)) (now (x0 .exit)) (now (x1 .exit)) 1 1 alone ⌝ }
@@ -58,8 +56,8 @@ fn start_alone(
 fn start_triple(
     next: &mut [u16; 1025],
     prev: &mut [u16; 1025],
-    x0: &mut [u16; 1024],
-    x1: &mut [u16; 1024],
+    x0: &mut [u16; Diagram::MAX_SIZE],
+    x1: &mut [u16; Diagram::MAX_SIZE],
 )
     requires { ⌜ Ring (now next) (now prev) [] × (length (now x0) ≡ 1024) × (length (now x1) ≡ 1024) ⌝ }
     ensures { λ _. ⌜ Holds (now (next .exit)) (now (prev .exit)) (now (x0 .exit)) (now (x1 .exit)) 3 3 triple ⌝ }
@@ -86,8 +84,8 @@ fn close_alone(used: u16, height: u16) -> Step
 fn add_triple(
     next: &mut [u16; 1025],
     prev: &mut [u16; 1025],
-    x0: &mut [u16; 1024],
-    x1: &mut [u16; 1024],
+    x0: &mut [u16; Diagram::MAX_SIZE],
+    x1: &mut [u16; Diagram::MAX_SIZE],
     k: u16,
     used: u16,
     height: u16,
@@ -97,7 +95,7 @@ fn add_triple(
     ensures { λ r. ⌜ ((t : State) → Holds (now (next .entry)) (now (prev .entry)) (now (x0 .entry)) (now (x1 .entry)) used height t → (w : List ℕ)
         → Stands (items (1 ∷ w) (k ∷ t .stack) (t .black) (t .white)) w r (now (next .exit)) (now (prev .exit)) (now (x0 .exit)) (now (x1 .exit))) ⌝ }
 {
-    if MAX_SIZE < used + 3 {
+    if (Diagram::MAX_SIZE as u16) < used + 3 {
         return Step::Refused(24);
     }
     let at = wide(used);
@@ -116,13 +114,19 @@ fn add_triple(
 }
 
 // B: the partner of k is the next free label, alone on its black vertex.
-fn add_alone(x0: &mut [u16; 1024], x1: &mut [u16; 1024], k: u16, used: u16, height: u16) -> Step
+fn add_alone(
+    x0: &mut [u16; Diagram::MAX_SIZE],
+    x1: &mut [u16; Diagram::MAX_SIZE],
+    k: u16,
+    used: u16,
+    height: u16,
+) -> Step
     requires { ⌜ Edge used k ⌝ }
     requires { ⌜ ((nx pv : List ℕ) × (t : State) × Holds nx pv (now x0) (now x1) used height t) ⌝ }
     ensures { λ r. ⌜ ((nx pv : List ℕ) (t : State) → Holds nx pv (now (x0 .entry)) (now (x1 .entry)) used height t → (w : List ℕ)
         → Stands (items (2 ∷ w) (k ∷ t .stack) (t .black) (t .white)) w r nx pv (now (x0 .exit)) (now (x1 .exit))) ⌝ }
 {
-    if MAX_SIZE < used + 1 {
+    if (Diagram::MAX_SIZE as u16) < used + 1 {
         return Step::Refused(24);
     }
     let at = wide(used);
@@ -138,7 +142,7 @@ fn add_alone(x0: &mut [u16; 1024], x1: &mut [u16; 1024], k: u16, used: u16, heig
 fn join_pending(
     next: &mut [u16; 1025],
     prev: &mut [u16; 1025],
-    x1: &mut [u16; 1024],
+    x1: &mut [u16; Diagram::MAX_SIZE],
     k: u16,
     d: u16,
     used: u16,
@@ -165,8 +169,8 @@ fn join_pending(
 fn event(
     next: &mut [u16; 1025],
     prev: &mut [u16; 1025],
-    x0: &mut [u16; 1024],
-    x1: &mut [u16; 1024],
+    x0: &mut [u16; Diagram::MAX_SIZE],
+    x1: &mut [u16; Diagram::MAX_SIZE],
     item: u16,
     used: u16,
     height: u16,
@@ -192,8 +196,8 @@ fn events(
     rest: &[u16],
     next: &mut [u16; 1025],
     prev: &mut [u16; 1025],
-    x0: &mut [u16; 1024],
-    x1: &mut [u16; 1024],
+    x0: &mut [u16; Diagram::MAX_SIZE],
+    x1: &mut [u16; Diagram::MAX_SIZE],
     used: u16,
     height: u16,
 ) -> Step
@@ -225,8 +229,8 @@ fn spelled(
     word: &[u16],
     next: &mut [u16; 1025],
     prev: &mut [u16; 1025],
-    x0: &mut [u16; 1024],
-    x1: &mut [u16; 1024],
+    x0: &mut [u16; Diagram::MAX_SIZE],
+    x1: &mut [u16; Diagram::MAX_SIZE],
 ) -> Step
     requires { ⌜ 0 < length (now word) ⌝ }
     requires { ⌜ Ring (now next) (now prev) [] × (length (now x0) ≡ 1024) × (length (now x1) ≡ 1024) ⌝ }
@@ -276,13 +280,13 @@ pub fn read_word(word: &[u16], s0: &mut [u16], s1: &mut [u16]) -> Reading
     if word.len() == 0 {
         return Reading::Refused(21);
     }
-    if 1025 < word.len() {
+    if Diagram::MAX_SIZE + 1 < word.len() {
         return Reading::Refused(21);
     }
     let mut next: [u16; 1025] = [0; 1025];
     let mut prev: [u16; 1025] = [0; 1025];
-    let mut x0: [u16; 1024] = [0; 1024];
-    let mut x1: [u16; 1024] = [0; 1024];
+    let mut x0: [u16; Diagram::MAX_SIZE] = [0; Diagram::MAX_SIZE];
+    let mut x1: [u16; Diagram::MAX_SIZE] = [0; Diagram::MAX_SIZE];
     let last = spelled(word, &mut next, &mut prev, &mut x0, &mut x1);
     match last {
         Step::Refused(n) => Reading::Refused(n),

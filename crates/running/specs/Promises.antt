@@ -1,4 +1,5 @@
--- What the beginning and the step of a run promise (document 01, "Run"), by the cases of their answers; a refusal's number is 01's.
+-- What the beginning and the step of a run promise (document 01, "Run"), by the cases of their answers, whose
+-- number and values are those of specs/Answers.
 -- Lists named a are as they were lent, lists named b as they are handed back.
 --
 --   blank                 the run of no size, all zeros: what a refused beginning hands back
@@ -21,6 +22,7 @@ use Rattle.running.specs.declared.Beginning.{Beginning}
 use Rattle.running.specs.declared.Beginning.the-variants as beginning
 use Rattle.running.specs.declared.Stepping.{Stepping}
 use Rattle.running.specs.declared.Stepping.the-variants as stepping
+use Rattle.running.specs.Answers.{begin-number, step-number, step-length}
 
 abbrev pub blank : Run
 blank = record { size = 0; stage = 0; length = 0; items = replicate 51 0 }
@@ -51,7 +53,7 @@ pub record Over (n : ℕ) (run : Run) : Type 0 where
 -- 31: the size is outside 1..50
 abbrev pub Begins : ℕ → Run → Beginning → Type 0
 Begins n run beginning.Begun = Edge 50 n × (run ≡ fresh n)
-Begins n run (beginning.Refused k) = (k ≡ 31) × (¬ Edge 50 n) × (run ≡ blank)
+Begins n run (beginning.Refused k) = (begin-number (beginning.Refused k) ≡ 31) × (¬ Edge 50 n) × (run ≡ blank)
 
 -- 34: the run is neither fresh, nor at a diagram, nor finished; 9: it is not finished, and an output list is short
 abbrev pub RefusedStep : Run → List ℕ → List ℕ → List ℕ → ℕ → Type 0
@@ -62,8 +64,8 @@ RefusedStep run a0 a1 aw k =
 -- the run before and after, the lists before and after
 abbrev pub Steps : Run → Run → List ℕ → List ℕ → List ℕ → List ℕ → List ℕ → List ℕ → Stepping → Type 0
 Steps run next a0 a1 aw b0 b1 bw (stepping.Length m) =
-    (n : ℕ) × (p : ℕ) × Stands n p run × (p < count n) × (¬ Short n a0 a1 aw) × (next ≡ given n (suc p)) × (m ≡ length (wordAt n (suc p)))
+    (n : ℕ) × (p : ℕ) × Stands n p run × (p < count n) × (¬ Short n a0 a1 aw) × (next ≡ given n (suc p)) × (step-length (stepping.Length m) 0 ≡ length (wordAt n (suc p)))
     × Written (diagramAt n (suc p)) (wordAt n (suc p)) a0 a1 aw b0 b1 bw
 Steps run next a0 a1 aw b0 b1 bw stepping.End =
     ((n : ℕ) × (next ≡ finished n) × (Over n run ⊎ (Stands n (count n) run × (¬ Short n a0 a1 aw)))) × Untouched a0 a1 aw b0 b1 bw
-Steps run next a0 a1 aw b0 b1 bw (stepping.Refused k) = RefusedStep run a0 a1 aw k × (next ≡ run) × Untouched a0 a1 aw b0 b1 bw
+Steps run next a0 a1 aw b0 b1 bw (stepping.Refused k) = RefusedStep run a0 a1 aw (step-number (stepping.Refused k)) × (next ≡ run) × Untouched a0 a1 aw b0 b1 bw

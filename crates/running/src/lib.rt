@@ -24,7 +24,7 @@ pub struct Run {
     pub size: u64,
     pub stage: u64,
     pub length: u64,
-    pub items: [u16; 51],
+    pub items: [u16; Diagram::MAX_LISTED + 1],
 }
 
 pub enum Beginning {
@@ -56,7 +56,7 @@ fn empty(size: u64, stage: u64) -> Run
         size,
         stage,
         length: 0,
-        items: [0u16; 51],
+        items: [0u16; Diagram::MAX_LISTED + 1],
     }
 }
 
@@ -121,7 +121,7 @@ pub fn sound(run: Run) -> bool
     if !listed(run.size) {
         return false;
     }
-    if 51 < run.length {
+    if (Diagram::MAX_LISTED as u64) + 1 < run.length {
         return false;
     }
     let length = run.length as usize;

@@ -3,6 +3,7 @@ pub mod shares;
 pub mod tests;
 
 use book::Heads;
+use diagrams::Diagram;
 use shares::Ends;
 use shares::count_of;
 use shares::onward;
@@ -151,7 +152,10 @@ pub fn sound<'a>(h: Heads, next: &'a [u64], ticket: &'a [u64], expiry: &'a [u64]
     requires { ⌜ Full (now next) (now ticket) (now expiry) ⌝ }
     ensures { λ r. ⌜ r ≡ sound (bookWith h (now (next .entry)) (now (ticket .entry)) (now (expiry .entry))) ⌝ }
 {
-    let sized = both(among(50, h.size), among(32, h.shares));
+    let sized = both(
+        among(Diagram::MAX_LISTED as u64, h.size),
+        among(32, h.shares),
+    );
     if both(sized, counters_in(h.issued, h.latest)) {
         return entries_sound(h, count_of(h.size), next, ticket, expiry);
     }

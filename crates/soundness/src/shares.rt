@@ -29,13 +29,13 @@ pub fn last_of(total: u64, k: u64, j: u64) -> u64
 }
 
 // Where the first j of k shares end: the quotient and the remainder of j times the count by k.
-pub struct Ends {
+pub(crate) struct Ends {
     pub last: u64,
     pub rest: u64,
 }
 
 // The same for one share more, without a division: step and part are the quotient and the remainder of the count by k.
-pub fn onward(e: Ends, step: u64, part: u64, k: u64) -> Ends
+pub(crate) fn onward(e: Ends, step: u64, part: u64, k: u64) -> Ends
     requires { ⌜ (e .rest < k) × (part < k) × (k ≤ 32) × (e .last < 2 ^ 56) × (step < 2 ^ 50) ⌝ }
     ensures { λ r. ⌜ (r .rest < k) × (r .last * k + r .rest ≡ (e .last * k + e .rest) + (step * k + part)) ⌝ }
 {

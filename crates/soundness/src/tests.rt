@@ -14,7 +14,7 @@ pub fn both(a: bool, b: bool) -> bool
     false
 }
 
-pub fn either(a: bool, b: bool) -> bool
+pub(crate) fn either(a: bool, b: bool) -> bool
     ensures { λ r. ⌜ r ≡ either a b ⌝ }
 {
     if a {
@@ -33,7 +33,7 @@ pub fn not(a: bool) -> bool
 }
 
 // Where a holds, b does.
-pub fn implies(a: bool, b: bool) -> bool
+pub(crate) fn implies(a: bool, b: bool) -> bool
     ensures { λ r. ⌜ r ≡ pick a b true ⌝ }
 {
     if a {

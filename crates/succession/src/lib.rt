@@ -14,7 +14,7 @@ ghost use Rattle.succession.specs.Succeeds.{Succeeds};
 ghost use Rattle.succession.specs.Reading.{Read, Raises};
 
 // How many labels are pending, and how many are still free.
-pub struct Level {
+struct Level {
     pub height: u16,
     pub free: u16,
 }

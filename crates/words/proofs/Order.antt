@@ -97,13 +97,6 @@ lesser-least u v = go (precedes v u) refl
 pub lesser-first : (u v : List ℕ) → u ≡ v → precedes v u ≡ false
 lesser-first u v e = before-false v u (rw e (before-irrefl v))
 
-pub lesser-beaten : (u v : List ℕ) → precedes (lesser u v) u ≡ precedes v u
-lesser-beaten u v = go (precedes v u) refl
-  where
-    go : (b : Bool) → precedes v u ≡ b → precedes (pick b v u) u ≡ b
-    go true e = e
-    go false e = before-false u u (before-irrefl u)
-
 -- ---- the steps of a comparison: what is left of both lists from place i on decides
 
 pub precedes-from : (u v : List ℕ) (i : ℕ) → i < length u → i < length v → getD u i 0 ≡ getD v i 0 → precedes (drop i u) (drop i v) ≡ precedes (drop (i + 1) u) (drop (i + 1) v)
@@ -121,15 +114,6 @@ precedes-short u v i hu hv = rw (drop-of-length-le u hu, drop-cons v i 0 hv)
 
 pub precedes-past : (u v : List ℕ) (i : ℕ) → length v ≤ i → precedes (drop i u) (drop i v) ≡ false
 precedes-past u v i h = rw (drop-of-length-le v h)
-
--- no more than one item past the end of u matters
-pub precedes-near : (u v : List ℕ) → precedes u (take (length u + 1) v) ≡ precedes u v
-precedes-near u v = rw (add-one (length u)) (near u v)
-  where
-    near : (u v : List ℕ) → precedes u (take (suc (length u)) v) ≡ precedes u v
-    near u [] = refl
-    near [] (y ∷ v) = refl
-    near (x ∷ u) (y ∷ v) = rw (near u v)
 
 -- ---- equality
 

@@ -1,3 +1,4 @@
+pub mod Answers
 pub mod Word
 pub mod Order
 pub mod Shape

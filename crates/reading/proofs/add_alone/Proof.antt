@@ -4,6 +4,9 @@ use Rattle.reading.proofs.EventLaws.{alone-refused, alone-stands}
 use Rattle.reading.proofs.add_alone.Statement.{statement}
 use Rattle.reading.proofs.add_alone.Tie as tie
 
+cast-if1 : tie.Need-cast-if1
+cast-if1 c = search needs
+
 add-if1 : tie.Need-add-if1
 add-if1 c = search needs
 
@@ -38,6 +41,7 @@ pub add-alone-spec : {M : Type 1} → statement M
 add-alone-spec =
     tie.close
     (tie.spec
+    cast-if1
     add-if1
     returns
     wide-requires

@@ -7,6 +7,9 @@ use Rattle.reading.proofs.EventLaws.{fresh, triple-refused, triple-stan
 use Rattle.reading.proofs.add_triple.Statement.{statement}
 use Rattle.reading.proofs.add_triple.Tie as tie
 
+cast-if1 : tie.Need-cast-if1
+cast-if1 c = search needs
+
 add-if1 : tie.Need-add-if1
 add-if1 c = search needs
 
@@ -94,8 +97,8 @@ push-requires-2 c κs = let (t, o) = c .before .before .before .before .before .
 add-t9 : tie.Need-add-t9
 add-t9 c = search needs
 
-add-t29 : tie.Need-add-t29
-add-t29 c = let (t, o) = c .before .before .before .before .before .before .before .before .before .before .pre .1 in omega (arith, ring-few _ _ _ (o .ring), o .high)
+add-t10 : tie.Need-add-t10
+add-t10 c = let (t, o) = c .before .before .before .before .before .before .before .before .before .before .pre .1 in omega (arith, ring-few _ _ _ (o .ring), o .high)
 
 returns-2 : tie.Need-returns-2
 returns-2 c = λ t o w.
@@ -107,6 +110,7 @@ pub add-triple-spec : {M : Type 1} → statement M
 add-triple-spec =
     tie.close
     (tie.spec
+    cast-if1
     add-if1
     returns
     wide-requires
@@ -136,5 +140,5 @@ add-triple-spec =
     add-push-2
     push-requires-2
     add-t9
-    add-t29
+    add-t10
     returns-2)

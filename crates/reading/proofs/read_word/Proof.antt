@@ -18,6 +18,9 @@ held c = rw (c .last2 .given .1) at (c .before .before .spelled .ensures)
 returns : tie.Need-returns
 returns c = rw (answer-empty (c .before .before .before .before .args .word .now) _ _ (c .if1 .taken)) (refl, refl, refl)
 
+add-if2 : tie.Need-add-if2
+add-if2 c = search needs
+
 returns-2 : tie.Need-returns-2
 returns-2 c = rw (answer-long (c .before .before .before .before .before .args .word .now) _ _ (c .if2 .taken)) (refl, refl, refl)
 
@@ -58,6 +61,7 @@ read-word-spec =
     tie.close
     (tie.spec
     returns
+    add-if2
     returns-2
     spelled-requires
     enum-known-last

@@ -24,6 +24,9 @@ listed-requires c κs = search needs
 returns : tie.Need-returns
 returns c = (λ e. absurd (true≢false (sym e)), λ e S. c .before .listed .ensures .1 (not-true _ (c .if1 .taken)) (S .sized))
 
+add-if2 : tie.Need-add-if2
+add-if2 c = search needs
+
 returns-2 : tie.Need-returns-2
 returns-2 c = (λ e. absurd (true≢false (sym e)), λ e S. let i = sound-length _ (long (c .before .before .before .before)) S in omega arith)
 
@@ -73,6 +76,7 @@ sound-spec =
     (tie.spec
     listed-requires
     returns
+    add-if2
     returns-2
     mul-zeros
     sub-zeros
