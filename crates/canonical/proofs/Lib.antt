@@ -1,3 +1,4 @@
+pub mod LesserPart
 pub mod Tried
 pub mod Comparing
-pub mod Characteristic
+pub mod Written

@@ -1,7 +1,10 @@
-// The operations that stand on the labelling: relabel, compare, symmetries, kept. Each first checks the diagrams it is lent (refusals 1
-// to 8); what it does with accepted ones is a function of its own, which makes the arrays once.
+// The operations that stand on the labelling: relabel, the characteristic labelling by value, compare, symmetries, kept. Each first checks
+// the diagrams it is lent (refusals 1 to 8); what it does with accepted ones is a function of its own, which makes the arrays once.
+pub mod least;
 pub mod rootings;
 
+use diagrams::Diagram;
+use diagrams::Made;
 use diagrams::Verdict;
 use labelled::tracing::trace;
 use labelled::writing::own_word;
@@ -17,12 +20,18 @@ ghost use mathlib.Core.Bool.{true};
 ghost use Rattle.diagrams.specs.Check.{Accepts};
 ghost use Rattle.diagrams.specs.Isomorphism.{Alike, RootAlike};
 ghost use Rattle.labelling.specs.Rootings.{Kept, symmetries};
-ghost use Rattle.canonical.specs.Promises.{Relabelled, ComparedRooted, ComparedUnrooted, Symmetric, Marked};
+ghost use Rattle.canonical.specs.Promises.{Relabelled, CharacteristicMade, Sided, ComparedRooted, ComparedUnrooted, Symmetric, Marked};
 
 // The length of the word written, or a refusal.
 pub enum Relabelling {
     Length(u16),
     Refused(u16),
+}
+
+// Two diagrams both accepted, or the first refusal with its side.
+enum Sides {
+    Accepted,
+    Refused { number: u16, side: u16 },
 }
 
 // Isomorphic or not, or a refusal with the side that it concerns.
@@ -104,6 +113,31 @@ pub fn relabel(
     }
 }
 
+// A diagram's characteristic labelling by value, with root 1, where check accepts the diagram; a refusal comes with the single edge.
+pub fn characteristic(s0: &[u16], s1: &[u16], root: u64) -> Made
+    ensures { λ r. ⌜ CharacteristicMade (now (s0 .entry)) (now (s1 .entry)) root r ⌝ }
+{
+    let mut t0 = [0u16; Diagram::MAX_SIZE];
+    let mut t1 = [0u16; Diagram::MAX_SIZE];
+    let mut word = [0u16; Diagram::MAX_SIZE + 1];
+    let answer = relabel(s0, s1, root, &mut t0, &mut t1, &mut word);
+    match answer {
+        Relabelling::Refused(k) => Made {
+            verdict: Verdict::Refused(k),
+            diagram: Diagram::single(),
+        },
+        Relabelling::Length(_) => Made {
+            verdict: Verdict::Accepted,
+            diagram: Diagram {
+                s0: t0,
+                s1: t1,
+                size: s0.len() as u16,
+                root: 1,
+            },
+        },
+    }
+}
+
 // Whether two accepted diagrams are isomorphic with roots: whether their words are the same.
 fn alike_rooted(s0: &[u16], s1: &[u16], r: u64, t0: &[u16], t1: &[u16], q: u64) -> bool
     requires { ⌜ Accepts (now s0) (now s1) r × Accepts (now t0) (now t1) q ⌝ }
@@ -178,24 +212,35 @@ fn alike_unrooted(s0: &[u16], s1: &[u16], t0: &[u16], t1: &[u16], q: u64) -> boo
     )
 }
 
+// Checks the first diagram, then the second.
+fn check_sides(s0: &[u16], s1: &[u16], r: u64, t0: &[u16], t1: &[u16], q: u64) -> Sides
+    ensures { λ a. ⌜ Sided (now (s0 .entry)) (now (s1 .entry)) r (now (t0 .entry)) (now (t1 .entry)) q a ⌝ }
+{
+    let first = diagrams::check(s0, s1, r);
+    match first {
+        Verdict::Refused(number) => Sides::Refused { number, side: 1 },
+        Verdict::Accepted => {
+            let second = diagrams::check(t0, t1, q);
+            match second {
+                Verdict::Refused(number) => Sides::Refused { number, side: 2 },
+                Verdict::Accepted => Sides::Accepted,
+            }
+        }
+    }
+}
+
 // Compares two diagrams with their roots. Of a refusal it also tells the side.
 pub fn compare_rooted(s0: &[u16], s1: &[u16], r: u64, t0: &[u16], t1: &[u16], q: u64) -> Comparison
     ensures { λ a. ⌜ ComparedRooted (now (s0 .entry)) (now (s1 .entry)) r (now (t0 .entry)) (now (t1 .entry)) q a ⌝ }
 {
-    let first = diagrams::check(s0, s1, r);
-    match first {
-        Verdict::Refused(number) => Comparison::Refused { number, side: 1 },
-        Verdict::Accepted => {
-            let second = diagrams::check(t0, t1, q);
-            match second {
-                Verdict::Refused(number) => Comparison::Refused { number, side: 2 },
-                Verdict::Accepted => {
-                    if alike_rooted(s0, s1, r, t0, t1, q) {
-                        Comparison::Same
-                    } else {
-                        Comparison::Different
-                    }
-                }
+    let sides = check_sides(s0, s1, r, t0, t1, q);
+    match sides {
+        Sides::Refused { number, side } => Comparison::Refused { number, side },
+        Sides::Accepted => {
+            if alike_rooted(s0, s1, r, t0, t1, q) {
+                Comparison::Same
+            } else {
+                Comparison::Different
             }
         }
     }
@@ -212,20 +257,14 @@ pub fn compare_unrooted(
 ) -> Comparison
     ensures { λ a. ⌜ ComparedUnrooted (now (s0 .entry)) (now (s1 .entry)) r (now (t0 .entry)) (now (t1 .entry)) q a ⌝ }
 {
-    let first = diagrams::check(s0, s1, r);
-    match first {
-        Verdict::Refused(number) => Comparison::Refused { number, side: 1 },
-        Verdict::Accepted => {
-            let second = diagrams::check(t0, t1, q);
-            match second {
-                Verdict::Refused(number) => Comparison::Refused { number, side: 2 },
-                Verdict::Accepted => {
-                    if alike_unrooted(s0, s1, t0, t1, q) {
-                        Comparison::Same
-                    } else {
-                        Comparison::Different
-                    }
-                }
+    let sides = check_sides(s0, s1, r, t0, t1, q);
+    match sides {
+        Sides::Refused { number, side } => Comparison::Refused { number, side },
+        Sides::Accepted => {
+            if alike_unrooted(s0, s1, t0, t1, q) {
+                Comparison::Same
+            } else {
+                Comparison::Different
             }
         }
     }

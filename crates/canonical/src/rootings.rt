@@ -1,5 +1,6 @@
 // A word among the words of a diagram's rootings. These ask for an accepted diagram and for arrays fit for a labelling, which they leave
 // so: whoever knows its diagram to be good calls them without a check, and clears no array.
+use crate::least::second_is_lesser;
 use labelled::tracing::trace;
 ghost use mathlib.Core.Path.{_≡_};
 ghost use mathlib.Core.Logic.{_↔_};
@@ -13,7 +14,7 @@ ghost use Rattle.labelled.specs.Scratch.{Ready};
 ghost use Rattle.canonical.specs.Among.{NoneBefore, SomeRooting, rootingsWith};
 
 // Whether two words are the same.
-pub fn same(a: &[u16], b: &[u16]) -> bool
+pub(crate) fn same(a: &[u16], b: &[u16]) -> bool
     ensures { λ r. ⌜ r ≡ same (now (a .entry)) (now (b .entry)) ⌝ }
 {
     if a.len() != b.len() {
@@ -27,25 +28,6 @@ pub fn same(a: &[u16], b: &[u16]) -> bool
         i += 1;
     }
     true
-}
-
-// Whether the lesser of own and the word c comes before own: whether it is c.
-fn beaten<'a>(own: &'a [u16], c: &'a [u16]) -> bool
-    ensures { λ r. ⌜ r ≡ precedes (now (c .entry)) (now (own .entry)) ⌝ }
-{
-    let least = words::lesser(own, c);
-    words::precedes(least, own)
-}
-
-// The same at the cost of the word c alone: one item more of own decides as all of it does.
-fn beaten_soon<'a>(own: &'a [u16], c: &'a [u16]) -> bool
-    ensures { λ r. ⌜ r ≡ precedes (now (c .entry)) (now (own .entry)) ⌝ }
-{
-    let k = c.len();
-    if own.len() <= k {
-        return beaten(own, c);
-    }
-    beaten(&own[..k + 1], c)
 }
 
 // Whether the word of the rooting x comes before own, the word of the root, which itself is not traced.
@@ -72,7 +54,7 @@ fn comes_before(
         return false;
     }
     let k = trace(s0, s1, labels, order, next, prev, x, own, cand);
-    beaten_soon(own, &cand[..k])
+    second_is_lesser(own, &cand[..k])
 }
 
 // Whether no rooting's word comes before own, the word of the root.
@@ -106,7 +88,7 @@ pub fn none_before(
 }
 
 // Whether some rooting has the word own.
-pub fn some_rooting(
+pub(crate) fn some_rooting(
     s0: &[u16],
     s1: &[u16],
     labels: &mut [u16; 1025],
@@ -135,7 +117,7 @@ pub fn some_rooting(
 }
 
 // How many rootings have the word own.
-pub fn rootings_with(
+pub(crate) fn rootings_with(
     s0: &[u16],
     s1: &[u16],
     labels: &mut [u16; 1025],

@@ -1,65 +1,45 @@
--- `compare_rooted` meets its contract: the two checks in turn, then the test of two accepted diagrams.
-use borrow.Author.Needs.{needs}
-use mathlib.Core.Path.{refl, sym, _∙_}
-use mathlib.Core.Logic.{inl, inr}
+-- `compare_rooted` meets its contract: the two checks, then the test of two accepted diagrams.
+use mathlib.Core.Path.{sym, _∙_}
 use mathlib.Core.Bool.{true≢false}
 use denote.Ref.{now}
 use Rattle.diagrams.specs.Check.{Accepts}
+use borrow.Author.Needs.{needs}
 use Rattle.canonical.proofs.compare_rooted.Statement.{statement}
 use Rattle.canonical.proofs.compare_rooted.Tie as tie
 
 -- both diagrams are accepted
-first-accepted : (c : tie.After-enum-told) → Accepts (now (c .before .before .before .before .before .before .before .args .s0)) (now (c .before .before .before .before .before .before .before .args .s1)) (c .before .before .before .before .before .before .before .args .r)
-first-accepted c = rw (c .enum-told .given .1) at (c .before .before .check .ensures)
+accepted : (c : tie.After-enum-told) → Accepts (now (c .before .before .before .before .before .before .before .args .s0)) (now (c .before .before .before .before .before .before .before .args .s1)) (c .before .before .before .before .before .before .before .args .r) × Accepts (now (c .before .before .before .before .before .before .before .args .t0)) (now (c .before .before .before .before .before .before .before .args .t1)) (c .before .before .before .before .before .before .before .args .q)
+accepted c = rw (c .enum-told .given .1) at (c .before .before .check-sides .ensures)
 
-second-accepted : (c : tie.After-enum-told2) → Accepts (now (c .before .before .before .before .before .before .before .before .before .before .args .t0)) (now (c .before .before .before .before .before .before .before .before .before .before .args .t1)) (c .before .before .before .before .before .before .before .before .before .before .args .q)
-second-accepted c = rw (c .enum-told2 .given .1) at (c .before .before .check2 .ensures)
+check-sides-requires : tie.Need-check-sides-requires
+check-sides-requires c κs = search needs
 
-check-requires : tie.Need-check-requires
-check-requires c κs = search needs
-
-enum-known-first : tie.Need-enum-known-first
-enum-known-first c = search needs
+enum-known-sides : tie.Need-enum-known-sides
+enum-known-sides c = search needs
 
 enum-told : tie.Need-enum-told
 enum-told c = search needs
 
-check-requires-2 : tie.Need-check-requires-2
-check-requires-2 c κs = search needs
-
-enum-known-second : tie.Need-enum-known-second
-enum-known-second c = search needs
-
-enum-told-2 : tie.Need-enum-told-2
-enum-told-2 c = search needs
-
 alike-rooted-requires : tie.Need-alike-rooted-requires
-alike-rooted-requires c κs = (first-accepted (c .before .before .before), second-accepted c)
+alike-rooted-requires c κs = accepted c
 
 returns : tie.Need-returns
-returns c = inl (refl, rw (c .before .first .given .1) at (c .before .before .before .check .ensures))
+returns c = rw (c .before .sides .given .1) at (c .before .before .before .check-sides .ensures)
 
 returns-2 : tie.Need-returns-2
-returns-2 c = inr (refl, first-accepted (c .before .before .before .before), rw (c .before .second .given .1) at (c .before .before .before .check2 .ensures))
+returns-2 c = let (a, b) = accepted (c .before .before) in (a, b, c .before .alike-rooted .ensures .0 (c .if1 .taken))
 
 returns-3 : tie.Need-returns-3
-returns-3 c = (first-accepted (c .before .before .before .before .before), second-accepted (c .before .before), c .before .alike-rooted .ensures .0 (c .if1 .taken))
-
-returns-4 : tie.Need-returns-4
-returns-4 c = (first-accepted (c .before .before .before .before .before), second-accepted (c .before .before), λ i. true≢false (sym (c .before .alike-rooted .ensures .1 i) ∙ c .if1 .left))
+returns-3 c = let (a, b) = accepted (c .before .before) in (a, b, λ i. true≢false (sym (c .before .alike-rooted .ensures .1 i) ∙ c .if1 .left))
 
 pub compare-rooted-spec : {M : Type 1} → statement M
 compare-rooted-spec =
     tie.close
     (tie.spec
-    check-requires
-    enum-known-first
+    check-sides-requires
+    enum-known-sides
     enum-told
-    check-requires-2
-    enum-known-second
-    enum-told-2
     alike-rooted-requires
     returns
     returns-2
-    returns-3
-    returns-4)
+    returns-3)

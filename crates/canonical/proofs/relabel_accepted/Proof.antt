@@ -7,7 +7,7 @@ use denote.Ref.{now}
 use Rattle.words.proofs.Outputs.{not-short, untouched}
 use Rattle.labelled.proofs.Arrays.{zeros-ready}
 use Rattle.labelled.proofs.Sofar.{labels-edges}
-use Rattle.canonical.proofs.Characteristic.{held-white, relabel-written}
+use Rattle.canonical.proofs.Written.{held-white, relabel-written}
 use Rattle.canonical.proofs.relabel_accepted.Statement.{statement}
 use Rattle.canonical.proofs.relabel_accepted.Tie as tie
 

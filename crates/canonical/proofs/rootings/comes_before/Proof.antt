@@ -25,20 +25,20 @@ returns c = (sym (lesser-first _ _ (sym (ap (wordOf _ _) (c .if1 .taken) ∙ c .
 trace-requires : tie.Need-trace-requires
 trace-requires c κs = (c .before .before .before .before .before .before .before .before .before .before .pre .0, (c .before .before .before .before .before .before .before .before .before .before .pre .1 .0, c .before .before .before .before .before .before .before .before .before .before .pre .1 .1 .0))
 
-slice-reshare-prefix-beaten-soon : tie.Need-slice-reshare-prefix-beaten-soon
-slice-reshare-prefix-beaten-soon c = written (c .before .before)
+slice-reshare-prefix-second-is-lesser : tie.Need-slice-reshare-prefix-second-is-lesser
+slice-reshare-prefix-second-is-lesser c = written (c .before .before)
 
-slice-aggregate-beaten-soon : tie.Need-slice-aggregate-beaten-soon
-slice-aggregate-beaten-soon c = sym (length-take-le _ _ (written (c .before .before .before)))
+slice-aggregate-second-is-lesser : tie.Need-slice-aggregate-second-is-lesser
+slice-aggregate-second-is-lesser c = sym (length-take-le _ _ (written (c .before .before .before)))
 
-beaten-soon-requires : tie.Need-beaten-soon-requires
-beaten-soon-requires c κs = search needs
+second-is-lesser-requires : tie.Need-second-is-lesser-requires
+second-is-lesser-requires c κs = search needs
 
 same-length : tie.Need-same-length
 same-length c = c .before .before .before .before .trace .kept .1 .1 .1 .1 .1 .1 .1 .1 .0
 
 returns-2 : tie.Need-returns-2
-returns-2 c = (c .beaten-soon .ensures ∙ c .before .before .before .before .trace .ensures .1 .0 .order-as, c .before .before .before .before .trace .ensures .1 .1)
+returns-2 c = (c .second-is-lesser .ensures ∙ c .before .before .before .before .trace .ensures .1 .0 .order-as, c .before .before .before .before .trace .ensures .1 .1)
 
 pub comes-before-spec : {M : Type 1} → statement M
 comes-before-spec =
@@ -46,8 +46,8 @@ comes-before-spec =
     (tie.spec
     returns
     trace-requires
-    slice-reshare-prefix-beaten-soon
-    slice-aggregate-beaten-soon
-    beaten-soon-requires
+    slice-reshare-prefix-second-is-lesser
+    slice-aggregate-second-is-lesser
+    second-is-lesser-requires
     same-length
     returns-2)
