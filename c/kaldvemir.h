@@ -10,6 +10,11 @@
  * their type; no list, book, run or number that is written overlaps any other that is passed. Nothing is kept after the return, nothing is
  * allocated, and there is no state but what the caller lends: distinct books and runs may be used from distinct threads.
  *
+ * What is passed to be read must be initialised before the call: numbers, lists behind a pointer to const, a run that is stepped or listed, a
+ * book that is not being opened. What is passed to be written need not be: numbers and lists behind the other pointers, the run before
+ * kaldvemir_begin, the book before kaldvemir_open. Nothing there is read before the call has written it, and a refused call leaves it alone, so
+ * that after a refusal it is as uninitialised as it was.
+ *
  * A diagram is lent as s0, s1 and root: entry i - 1 of s0 (of s1) is the next edge round the black (white) vertex of edge i. A diagram that
  * is written has root 1 and fills the first places of its lists; the rest is untouched.
  */

@@ -1,2 +1,3 @@
 mod Stepped
 mod Blocks
+mod Opened

@@ -1,7 +1,7 @@
-// The numbers and values of the answers.
+// An answer told through the boundary: its number is returned, and its values are written where it has them. Nothing is written of a
+// refusal but a compare's side, and nothing that stands behind a reference is read.
 use book::Claiming;
 use book::Committing;
-use book::Opening;
 use book::Releasing;
 use book::Reporting;
 use book::Taking;
@@ -19,9 +19,10 @@ use reading::Reading;
 use walking::Walked;
 use words::Lettered;
 ghost use mathlib.Core.Path.{_≡_};
+ghost use Rattle.lists.specs.Lists.{pick};
 ghost use Rattle.kaldvemir.specs.Answers as answers;
 
-pub fn check_number(a: Verdict) -> u16
+pub fn check_answer(a: Verdict) -> u16
     ensures { λ r. ⌜ r ≡ answers.check-number a ⌝ }
 {
     match a {
@@ -30,335 +31,216 @@ pub fn check_number(a: Verdict) -> u16
     }
 }
 
-pub fn relabel_number(a: Relabelling) -> u16
-    ensures { λ r. ⌜ r ≡ answers.relabel-number a ⌝ }
+pub fn relabel_answer(a: Relabelling, length: &mut u64) -> u16
+    ensures { λ r. ⌜ (r ≡ answers.relabel-number a)
+        × (now (length .exit) ≡ answers.relabel-length a (now (length .entry))) ⌝ }
 {
     match a {
-        Relabelling::Length(_) => 0,
+        Relabelling::Length(m) => {
+            *length = long(m);
+            0
+        }
         Relabelling::Refused(k) => k,
     }
 }
 
-pub fn relabel_length(a: Relabelling, old: u64) -> u64
-    ensures { λ r. ⌜ r ≡ answers.relabel-length a old ⌝ }
+pub fn compare_answer(a: Comparison, same: &mut u64, side: &mut u64) -> u16
+    ensures { λ r. ⌜ (r ≡ answers.compare-number a)
+        × (now (same .exit) ≡ answers.compare-same a (now (same .entry)))
+        × (now (side .exit) ≡ answers.compare-side a (now (side .entry))) ⌝ }
 {
     match a {
-        Relabelling::Length(m) => long(m),
-        Relabelling::Refused(_) => old,
+        Comparison::Same => {
+            *same = 1;
+            0
+        }
+        Comparison::Different => {
+            *same = 0;
+            0
+        }
+        Comparison::Refused {
+            number,
+            side: which,
+        } => {
+            *side = long(which);
+            number
+        }
     }
 }
 
-pub fn compare_number(a: Comparison) -> u16
-    ensures { λ r. ⌜ r ≡ answers.compare-number a ⌝ }
+pub fn symmetries_answer(a: Symmetry, count: &mut u64) -> u16
+    ensures { λ r. ⌜ (r ≡ answers.symmetries-number a)
+        × (now (count .exit) ≡ answers.symmetries-count a (now (count .entry))) ⌝ }
 {
     match a {
-        Comparison::Same => 0,
-        Comparison::Different => 0,
-        Comparison::Refused { number, side: _ } => number,
-    }
-}
-
-pub fn compare_same(a: Comparison, old: u64) -> u64
-    ensures { λ r. ⌜ r ≡ answers.compare-same a old ⌝ }
-{
-    match a {
-        Comparison::Same => 1,
-        Comparison::Different => 0,
-        Comparison::Refused { number: _, side: _ } => old,
-    }
-}
-
-pub fn compare_side(a: Comparison, old: u64) -> u64
-    ensures { λ r. ⌜ r ≡ answers.compare-side a old ⌝ }
-{
-    match a {
-        Comparison::Same => old,
-        Comparison::Different => old,
-        Comparison::Refused { number: _, side } => long(side),
-    }
-}
-
-pub fn symmetries_number(a: Symmetry) -> u16
-    ensures { λ r. ⌜ r ≡ answers.symmetries-number a ⌝ }
-{
-    match a {
-        Symmetry::Count(_) => 0,
+        Symmetry::Count(m) => {
+            *count = long(m);
+            0
+        }
         Symmetry::Refused(k) => k,
     }
 }
 
-pub fn symmetries_count(a: Symmetry, old: u64) -> u64
-    ensures { λ r. ⌜ r ≡ answers.symmetries-count a old ⌝ }
+pub fn kept_answer(a: KeepMark, kept: &mut u64) -> u16
+    ensures { λ r. ⌜ (r ≡ answers.kept-number a)
+        × (now (kept .exit) ≡ answers.kept-mark a (now (kept .entry))) ⌝ }
 {
     match a {
-        Symmetry::Count(m) => long(m),
-        Symmetry::Refused(_) => old,
-    }
-}
-
-pub fn kept_number(a: KeepMark) -> u16
-    ensures { λ r. ⌜ r ≡ answers.kept-number a ⌝ }
-{
-    match a {
-        KeepMark::Yes => 0,
-        KeepMark::No => 0,
+        KeepMark::Yes => {
+            *kept = 1;
+            0
+        }
+        KeepMark::No => {
+            *kept = 0;
+            0
+        }
         KeepMark::Refused(k) => k,
     }
 }
 
-pub fn kept_mark(a: KeepMark, old: u64) -> u64
-    ensures { λ r. ⌜ r ≡ answers.kept-mark a old ⌝ }
+pub fn invariants_answer(
+    a: Measured,
+    e2: &mut u16,
+    e3: &mut u16,
+    c: &mut u16,
+    t: &mut i32,
+    level: &mut u16,
+) -> u16
+    ensures { λ r. ⌜ (r ≡ answers.invariants-number a)
+        × (now (e2 .exit) ≡ answers.invariants-e2 a (now (e2 .entry)))
+        × (now (e3 .exit) ≡ answers.invariants-e3 a (now (e3 .entry)))
+        × (now (c .exit) ≡ answers.invariants-c a (now (c .entry)))
+        × (now (t .exit) ≡ answers.invariants-t a (now (t .entry)))
+        × (now (level .exit) ≡ answers.invariants-level a (now (level .entry))) ⌝ }
 {
     match a {
-        KeepMark::Yes => 1,
-        KeepMark::No => 0,
-        KeepMark::Refused(_) => old,
-    }
-}
-
-pub fn invariants_number(a: Measured) -> u16
-    ensures { λ r. ⌜ r ≡ answers.invariants-number a ⌝ }
-{
-    match a {
-        Measured::Known(_) => 0,
+        Measured::Known(m) => {
+            *e2 = m.e2;
+            *e3 = m.e3;
+            *c = m.c;
+            let signed = m.t;
+            *t = signed;
+            *level = m.level;
+            0
+        }
         Measured::Refused(k) => k,
     }
 }
 
-pub fn invariants_e2(a: Measured, old: u16) -> u16
-    ensures { λ r. ⌜ r ≡ answers.invariants-e2 a old ⌝ }
+pub fn read_answer(a: Reading, size: &mut u64) -> u16
+    ensures { λ r. ⌜ (r ≡ answers.read-number a)
+        × (now (size .exit) ≡ answers.read-size a (now (size .entry))) ⌝ }
 {
     match a {
-        Measured::Known(m) => m.e2,
-        Measured::Refused(_) => old,
-    }
-}
-
-pub fn invariants_e3(a: Measured, old: u16) -> u16
-    ensures { λ r. ⌜ r ≡ answers.invariants-e3 a old ⌝ }
-{
-    match a {
-        Measured::Known(m) => m.e3,
-        Measured::Refused(_) => old,
-    }
-}
-
-pub fn invariants_c(a: Measured, old: u16) -> u16
-    ensures { λ r. ⌜ r ≡ answers.invariants-c a old ⌝ }
-{
-    match a {
-        Measured::Known(m) => m.c,
-        Measured::Refused(_) => old,
-    }
-}
-
-pub fn invariants_t(a: Measured, old: i32) -> i32
-    ensures { λ r. ⌜ r ≡ answers.invariants-t a old ⌝ }
-{
-    match a {
-        Measured::Known(m) => m.t,
-        Measured::Refused(_) => old,
-    }
-}
-
-pub fn invariants_level(a: Measured, old: u16) -> u16
-    ensures { λ r. ⌜ r ≡ answers.invariants-level a old ⌝ }
-{
-    match a {
-        Measured::Known(m) => m.level,
-        Measured::Refused(_) => old,
-    }
-}
-
-pub fn read_number(a: Reading) -> u16
-    ensures { λ r. ⌜ r ≡ answers.read-number a ⌝ }
-{
-    match a {
-        Reading::Size(_) => 0,
+        Reading::Size(n) => {
+            *size = long(n);
+            0
+        }
         Reading::Refused(k) => k,
     }
 }
 
-pub fn read_size(a: Reading, old: u64) -> u64
-    ensures { λ r. ⌜ r ≡ answers.read-size a old ⌝ }
+pub fn letters_answer(a: Lettered, length: &mut u64) -> u16
+    ensures { λ r. ⌜ (r ≡ answers.letters-number a)
+        × (now (length .exit) ≡ answers.letters-length a (now (length .entry))) ⌝ }
 {
     match a {
-        Reading::Size(n) => long(n),
-        Reading::Refused(_) => old,
-    }
-}
-
-pub fn letters_number(a: Lettered) -> u16
-    ensures { λ r. ⌜ r ≡ answers.letters-number a ⌝ }
-{
-    match a {
-        Lettered::Length(_) => 0,
+        Lettered::Length(n) => {
+            *length = n as u64;
+            0
+        }
         Lettered::Refused(k) => k,
     }
 }
 
-pub fn letters_length(a: Lettered, old: u64) -> u64
-    ensures { λ r. ⌜ r ≡ answers.letters-length a old ⌝ }
+pub fn count_answer(a: Total, count: &mut u64) -> u16
+    ensures { λ r. ⌜ (r ≡ answers.count-number a)
+        × (now (count .exit) ≡ answers.count-total a (now (count .entry))) ⌝ }
 {
     match a {
-        Lettered::Length(n) => n as u64,
-        Lettered::Refused(_) => old,
-    }
-}
-
-pub fn count_number(a: Total) -> u16
-    ensures { λ r. ⌜ r ≡ answers.count-number a ⌝ }
-{
-    match a {
-        Total::Number(_) => 0,
+        Total::Number(c) => {
+            *count = c;
+            0
+        }
         Total::Refused(k) => k,
     }
 }
 
-pub fn count_total(a: Total, old: u64) -> u64
-    ensures { λ r. ⌜ r ≡ answers.count-total a old ⌝ }
+pub fn entry_answer(a: Entry, length: &mut u64) -> u16
+    ensures { λ r. ⌜ (r ≡ answers.entry-number a)
+        × (now (length .exit) ≡ answers.entry-length a (now (length .entry))) ⌝ }
 {
     match a {
-        Total::Number(c) => c,
-        Total::Refused(_) => old,
-    }
-}
-
-pub fn entry_number(a: Entry) -> u16
-    ensures { λ r. ⌜ r ≡ answers.entry-number a ⌝ }
-{
-    match a {
-        Entry::Length(_) => 0,
+        Entry::Length(m) => {
+            *length = long(m);
+            0
+        }
         Entry::Refused(k) => k,
     }
 }
 
-pub fn entry_length(a: Entry, old: u64) -> u64
-    ensures { λ r. ⌜ r ≡ answers.entry-length a old ⌝ }
+pub fn place_answer(a: Place, position: &mut u64) -> u16
+    ensures { λ r. ⌜ (r ≡ answers.located-number a)
+        × (now (position .exit) ≡ answers.located-position a (now (position .entry))) ⌝ }
 {
     match a {
-        Entry::Length(m) => long(m),
-        Entry::Refused(_) => old,
-    }
-}
-
-pub fn place_number(a: Place) -> u16
-    ensures { λ r. ⌜ r ≡ answers.place-number a ⌝ }
-{
-    match a {
-        Place::Number(_) => 0,
+        Place::Number(p) => {
+            *position = p;
+            0
+        }
         Place::Refused(k) => k,
     }
 }
 
-pub fn place_position(a: Place, old: u64) -> u64
-    ensures { λ r. ⌜ r ≡ answers.place-position a old ⌝ }
+pub fn walk_answer(a: Walked, count: &mut u64) -> u16
+    ensures { λ r. ⌜ (r ≡ answers.walk-number a)
+        × (now (count .exit) ≡ answers.walk-count a (now (count .entry))) ⌝ }
 {
     match a {
-        Place::Number(p) => p,
-        Place::Refused(_) => old,
-    }
-}
-
-pub fn walk_number(a: Walked) -> u16
-    ensures { λ r. ⌜ r ≡ answers.walk-number a ⌝ }
-{
-    match a {
-        Walked::Numbers(_) => 0,
+        Walked::Numbers(m) => {
+            *count = m as u64;
+            0
+        }
         Walked::Refused(k) => k,
     }
 }
 
-pub fn walk_count(a: Walked, old: u64) -> u64
-    ensures { λ r. ⌜ r ≡ answers.walk-count a old ⌝ }
+pub fn claim_answer(a: Claiming, ticket: &mut u64) -> u16
+    ensures { λ r. ⌜ (r ≡ answers.claiming-number a)
+        × (now (ticket .exit) ≡ answers.claiming-ticket a (now (ticket .entry))) ⌝ }
 {
     match a {
-        Walked::Numbers(m) => m as u64,
-        Walked::Refused(_) => old,
-    }
-}
-
-pub fn open_number(a: Opening) -> u16
-    ensures { λ r. ⌜ r ≡ answers.open-number a ⌝ }
-{
-    match a {
-        Opening::Opened => 0,
-        Opening::Refused(k) => k,
-    }
-}
-
-pub fn claim_number(a: Claiming) -> u16
-    ensures { λ r. ⌜ r ≡ answers.claim-number a ⌝ }
-{
-    match a {
-        Claiming::Ticket(_) => 0,
+        Claiming::Ticket(t) => {
+            *ticket = t;
+            0
+        }
         Claiming::Refused(k) => k,
     }
 }
 
-pub fn claim_ticket(a: Claiming, old: u64) -> u64
-    ensures { λ r. ⌜ r ≡ answers.claim-ticket a old ⌝ }
-{
-    match a {
-        Claiming::Ticket(t) => t,
-        Claiming::Refused(_) => old,
-    }
-}
-
-pub fn take_number(a: Taking) -> u16
-    ensures { λ r. ⌜ r ≡ answers.take-number a ⌝ }
+pub fn take_answer(a: Taking, share: &mut u64, position: &mut u64, length: &mut u64) -> u16
+    ensures { λ r. ⌜ (r ≡ answers.taking-number a)
+        × (now (share .exit) ≡ answers.taking-share a (now (share .entry)))
+        × (now (position .exit) ≡ answers.taking-position a (now (position .entry)))
+        × (now (length .exit) ≡ answers.taking-length a (now (length .entry))) ⌝ }
 {
     match a {
         Taking::Given {
-            share: _,
-            position: _,
-            length: _,
-        } => 0,
+            share: j,
+            position: p,
+            length: m,
+        } => {
+            *share = j;
+            *position = p;
+            *length = m;
+            0
+        }
         Taking::Refused(k) => k,
     }
 }
 
-pub fn take_share(a: Taking, old: u64) -> u64
-    ensures { λ r. ⌜ r ≡ answers.take-share a old ⌝ }
-{
-    match a {
-        Taking::Given {
-            share,
-            position: _,
-            length: _,
-        } => share,
-        Taking::Refused(_) => old,
-    }
-}
-
-pub fn take_position(a: Taking, old: u64) -> u64
-    ensures { λ r. ⌜ r ≡ answers.take-position a old ⌝ }
-{
-    match a {
-        Taking::Given {
-            share: _,
-            position,
-            length: _,
-        } => position,
-        Taking::Refused(_) => old,
-    }
-}
-
-pub fn take_length(a: Taking, old: u64) -> u64
-    ensures { λ r. ⌜ r ≡ answers.take-length a old ⌝ }
-{
-    match a {
-        Taking::Given {
-            share: _,
-            position: _,
-            length,
-        } => length,
-        Taking::Refused(_) => old,
-    }
-}
-
-pub fn commit_number(a: Committing) -> u16
-    ensures { λ r. ⌜ r ≡ answers.commit-number a ⌝ }
+pub fn commit_answer(a: Committing) -> u16
+    ensures { λ r. ⌜ r ≡ answers.committing-number a ⌝ }
 {
     match a {
         Committing::Committed => 0,
@@ -366,8 +248,8 @@ pub fn commit_number(a: Committing) -> u16
     }
 }
 
-pub fn release_number(a: Releasing) -> u16
-    ensures { λ r. ⌜ r ≡ answers.release-number a ⌝ }
+pub fn release_answer(a: Releasing) -> u16
+    ensures { λ r. ⌜ r ≡ answers.releasing-number a ⌝ }
 {
     match a {
         Releasing::Released => 0,
@@ -375,38 +257,27 @@ pub fn release_number(a: Releasing) -> u16
     }
 }
 
-pub fn report_number(a: Reporting) -> u16
-    ensures { λ r. ⌜ r ≡ answers.report-number a ⌝ }
+// 1 for yes, 0 for no.
+fn truth(b: bool) -> u64
+    ensures { λ r. ⌜ r ≡ pick b 1 0 ⌝ }
+{
+    if b { 1 } else { 0 }
+}
+
+pub fn report_answer(a: Reporting, committed: &mut u64, complete: &mut u64) -> u16
+    ensures { λ r. ⌜ (r ≡ answers.reporting-number a)
+        × (now (committed .exit) ≡ answers.reporting-committed a (now (committed .entry)))
+        × (now (complete .exit) ≡ answers.reporting-complete a (now (complete .entry))) ⌝ }
 {
     match a {
         Reporting::Progress {
-            committed: _,
-            complete: _,
-        } => 0,
+            committed: n,
+            complete: all,
+        } => {
+            *committed = n;
+            *complete = truth(all);
+            0
+        }
         Reporting::Refused(k) => k,
-    }
-}
-
-pub fn report_committed(a: Reporting, old: u64) -> u64
-    ensures { λ r. ⌜ r ≡ answers.report-committed a old ⌝ }
-{
-    match a {
-        Reporting::Progress {
-            committed,
-            complete: _,
-        } => committed,
-        Reporting::Refused(_) => old,
-    }
-}
-
-pub fn report_complete(a: Reporting, old: u64) -> u64
-    ensures { λ r. ⌜ r ≡ answers.report-complete a old ⌝ }
-{
-    match a {
-        Reporting::Progress {
-            committed: _,
-            complete,
-        } => { if complete { 1 } else { 0 } }
-        Reporting::Refused(_) => old,
     }
 }

@@ -1,16 +1,11 @@
 // The share book. It lies with the caller as 100 numbers: an operation looks at them where they are, and writes those that it alters.
-use crate::answers::claim_number;
-use crate::answers::claim_ticket;
-use crate::answers::commit_number;
-use crate::answers::open_number;
-use crate::answers::release_number;
-use crate::answers::report_committed;
-use crate::answers::report_complete;
-use crate::answers::report_number;
-use crate::answers::take_length;
-use crate::answers::take_number;
-use crate::answers::take_position;
-use crate::answers::take_share;
+use crate::answers::claim_answer;
+use crate::answers::commit_answer;
+use crate::answers::release_answer;
+use crate::answers::report_answer;
+use crate::answers::take_answer;
+use book::Book;
+use book::Opening;
 use cores::decisions::claim;
 use cores::decisions::commit;
 use cores::decisions::release;
@@ -19,7 +14,6 @@ use cores::decisions::take;
 use cores::open_core;
 use layout::books::change;
 use layout::books::heads;
-use layout::books::held;
 use layout::books::put_back;
 ghost use mathlib.Core.Path.{_≡_};
 ghost use Rattle.book.specs.Calls.{open-answer, open-book, claim-answer, claim-book, commit-answer, commit-book, release-answer, release-book, report-answer};
@@ -29,15 +23,38 @@ ghost use Rattle.book.specs.declared.types.Taking.{Taking};
 ghost use Rattle.kaldvemir.specs.Answers as answers;
 ghost use Rattle.layout.specs.Layout.{book-of, book-numbers};
 
+// A book of zeros, for open to decide on: it asks nothing of the book that it is to alter.
+fn blank() -> Book {
+    let none = [0u64; 32];
+    Book {
+        size: 0,
+        shares: 0,
+        latest: 0,
+        issued: 0,
+        next: none,
+        ticket: none,
+        expiry: none,
+    }
+}
+
+// Nothing of the lent book is read, and it is written only where the opening is accepted.
 #[no_mangle]
 pub extern "C" fn kaldvemir_open(book: &mut [u64; 100], size: u64, shares: u64) -> u16
-    ensures { λ r. ⌜ (r ≡ answers.open-number (open-answer size shares))
+    ensures { λ r. ⌜ (r ≡ answers.opening-number (open-answer size shares))
         × (now (book .exit) ≡ book-numbers (open-book (book-of (now (book .entry))) size shares)) ⌝ }
 {
-    let done = open_core(held(*book), size, shares);
+    let done = open_core(blank(), size, shares);
     let answer = done.answer;
-    put_back(book, done.book);
-    open_number(answer)
+    let opened = done.book;
+    // the lent numbers as a list, which says that they are 100; none is looked at
+    let numbers: &[u64] = book;
+    match answer {
+        Opening::Refused(k) => k,
+        Opening::Opened => {
+            put_back(book, opened);
+            0
+        }
+    }
 }
 
 #[no_mangle]
@@ -48,8 +65,8 @@ pub extern "C" fn kaldvemir_claim(
     length: u64,
     ticket: &mut u64,
 ) -> u16
-    ensures { λ r. ⌜ (r ≡ answers.claim-number (claim-answer (book-of (now (book .entry))) tick share length))
-        × (now (ticket .exit) ≡ answers.claim-ticket (claim-answer (book-of (now (book .entry))) tick share length) (now (ticket .entry)))
+    ensures { λ r. ⌜ (r ≡ answers.claiming-number (claim-answer (book-of (now (book .entry))) tick share length))
+        × (now (ticket .exit) ≡ answers.claiming-ticket (claim-answer (book-of (now (book .entry))) tick share length) (now (ticket .entry)))
         × (now (book .exit) ≡ book-numbers (claim-book (book-of (now (book .entry))) tick share length)) ⌝ }
 {
     let numbers: &[u64] = book;
@@ -65,8 +82,7 @@ pub extern "C" fn kaldvemir_claim(
     let answer = choice.answer;
     let altered = choice.change;
     change(book, altered);
-    *ticket = claim_ticket(answer, *ticket);
-    claim_number(answer)
+    claim_answer(answer, ticket)
 }
 
 #[no_mangle]
@@ -83,10 +99,10 @@ pub extern "C" fn kaldvemir_take(
 ) -> u16
     ensures { λ r. ⌜ ((a : Taking) × (next : Book)
         × Taken (book-of (now (book .entry))) tick ticket (now (s0 .entry)) (now (s1 .entry)) (now (word .entry)) a next (now (s0 .exit)) (now (s1 .exit)) (now (word .exit))
-        × (r ≡ answers.take-number a)
-        × (now (share .exit) ≡ answers.take-share a (now (share .entry)))
-        × (now (position .exit) ≡ answers.take-position a (now (position .entry)))
-        × (now (length .exit) ≡ answers.take-length a (now (length .entry)))
+        × (r ≡ answers.taking-number a)
+        × (now (share .exit) ≡ answers.taking-share a (now (share .entry)))
+        × (now (position .exit) ≡ answers.taking-position a (now (position .entry)))
+        × (now (length .exit) ≡ answers.taking-length a (now (length .entry)))
         × (now (book .exit) ≡ book-numbers next)) ⌝ }
 {
     let numbers: &[u64] = book;
@@ -104,10 +120,7 @@ pub extern "C" fn kaldvemir_take(
     let answer = choice.answer;
     let altered = choice.change;
     change(book, altered);
-    *share = take_share(answer, *share);
-    *position = take_position(answer, *position);
-    *length = take_length(answer, *length);
-    take_number(answer)
+    take_answer(answer, share, position, length)
 }
 
 #[no_mangle]
@@ -117,7 +130,7 @@ pub extern "C" fn kaldvemir_commit(
     ticket: u64,
     position: u64,
 ) -> u16
-    ensures { λ r. ⌜ (r ≡ answers.commit-number (commit-answer (book-of (now (book .entry))) tick ticket position))
+    ensures { λ r. ⌜ (r ≡ answers.committing-number (commit-answer (book-of (now (book .entry))) tick ticket position))
         × (now (book .exit) ≡ book-numbers (commit-book (book-of (now (book .entry))) tick ticket position)) ⌝ }
 {
     let numbers: &[u64] = book;
@@ -133,12 +146,12 @@ pub extern "C" fn kaldvemir_commit(
     let answer = choice.answer;
     let altered = choice.change;
     change(book, altered);
-    commit_number(answer)
+    commit_answer(answer)
 }
 
 #[no_mangle]
 pub extern "C" fn kaldvemir_release(book: &mut [u64; 100], tick: u64, ticket: u64) -> u16
-    ensures { λ r. ⌜ (r ≡ answers.release-number (release-answer (book-of (now (book .entry))) tick ticket))
+    ensures { λ r. ⌜ (r ≡ answers.releasing-number (release-answer (book-of (now (book .entry))) tick ticket))
         × (now (book .exit) ≡ book-numbers (release-book (book-of (now (book .entry))) tick ticket)) ⌝ }
 {
     let numbers: &[u64] = book;
@@ -153,7 +166,7 @@ pub extern "C" fn kaldvemir_release(book: &mut [u64; 100], tick: u64, ticket: u6
     let answer = choice.answer;
     let altered = choice.change;
     change(book, altered);
-    release_number(answer)
+    release_answer(answer)
 }
 
 #[no_mangle]
@@ -162,9 +175,9 @@ pub extern "C" fn kaldvemir_report(
     committed: &mut u64,
     complete: &mut u64,
 ) -> u16
-    ensures { λ r. ⌜ (r ≡ answers.report-number (report-answer (book-of (now (book .entry)))))
-        × (now (committed .exit) ≡ answers.report-committed (report-answer (book-of (now (book .entry)))) (now (committed .entry)))
-        × (now (complete .exit) ≡ answers.report-complete (report-answer (book-of (now (book .entry)))) (now (complete .entry))) ⌝ }
+    ensures { λ r. ⌜ (r ≡ answers.reporting-number (report-answer (book-of (now (book .entry)))))
+        × (now (committed .exit) ≡ answers.reporting-committed (report-answer (book-of (now (book .entry)))) (now (committed .entry)))
+        × (now (complete .exit) ≡ answers.reporting-complete (report-answer (book-of (now (book .entry)))) (now (complete .entry))) ⌝ }
 {
     let numbers: &[u64] = book;
     let answer = report(
@@ -173,7 +186,5 @@ pub extern "C" fn kaldvemir_report(
         &numbers[36..68],
         &numbers[68..100],
     );
-    *committed = report_committed(answer, *committed);
-    *complete = report_complete(answer, *complete);
-    report_number(answer)
+    report_answer(answer, committed, complete)
 }

@@ -1,20 +1,10 @@
 // Given diagrams, 1 to 1,024 edges.
-use crate::answers::check_number;
-use crate::answers::compare_number;
-use crate::answers::compare_same;
-use crate::answers::compare_side;
-use crate::answers::invariants_c;
-use crate::answers::invariants_e2;
-use crate::answers::invariants_e3;
-use crate::answers::invariants_level;
-use crate::answers::invariants_number;
-use crate::answers::invariants_t;
-use crate::answers::kept_mark;
-use crate::answers::kept_number;
-use crate::answers::relabel_length;
-use crate::answers::relabel_number;
-use crate::answers::symmetries_count;
-use crate::answers::symmetries_number;
+use crate::answers::check_answer;
+use crate::answers::compare_answer;
+use crate::answers::invariants_answer;
+use crate::answers::kept_answer;
+use crate::answers::relabel_answer;
+use crate::answers::symmetries_answer;
 ghost use mathlib.Core.Path.{_≡_};
 ghost use mathlib.Core.Logic.{_↔_};
 ghost use mathlib.Core.Bool.{true};
@@ -33,7 +23,7 @@ ghost use Rattle.kaldvemir.specs.Answers as answers;
 pub extern "C" fn kaldvemir_check(s0: &[u16], s1: &[u16], root: u64) -> u16
     ensures { λ r. ⌜ ((a : Verdict) × Checked (now (s0 .entry)) (now (s1 .entry)) root a × (r ≡ answers.check-number a)) ⌝ }
 {
-    check_number(diagrams::check(s0, s1, root))
+    check_answer(diagrams::check(s0, s1, root))
 }
 
 #[no_mangle]
@@ -59,8 +49,7 @@ pub extern "C" fn kaldvemir_relabel(
         × (now (length .exit) ≡ answers.relabel-length a (now (length .entry)))) ⌝ }
 {
     let a = canonical::relabel(s0, s1, root, t0, t1, word);
-    *length = relabel_length(a, *length);
-    relabel_number(a)
+    relabel_answer(a, length)
 }
 
 #[no_mangle]
@@ -81,9 +70,7 @@ pub extern "C" fn kaldvemir_compare_rooted(
         × (now (side .exit) ≡ answers.compare-side a (now (side .entry)))) ⌝ }
 {
     let a = canonical::compare_rooted(s0, s1, r, t0, t1, q);
-    *same = compare_same(a, *same);
-    *side = compare_side(a, *side);
-    compare_number(a)
+    compare_answer(a, same, side)
 }
 
 #[no_mangle]
@@ -104,9 +91,7 @@ pub extern "C" fn kaldvemir_compare_unrooted(
         × (now (side .exit) ≡ answers.compare-side a (now (side .entry)))) ⌝ }
 {
     let a = canonical::compare_unrooted(s0, s1, r, t0, t1, q);
-    *same = compare_same(a, *same);
-    *side = compare_side(a, *side);
-    compare_number(a)
+    compare_answer(a, same, side)
 }
 
 #[no_mangle]
@@ -117,8 +102,7 @@ pub extern "C" fn kaldvemir_symmetries(s0: &[u16], s1: &[u16], root: u64, count:
         × (now (count .exit) ≡ answers.symmetries-count a (now (count .entry)))) ⌝ }
 {
     let a = canonical::symmetries(s0, s1, root);
-    *count = symmetries_count(a, *count);
-    symmetries_number(a)
+    symmetries_answer(a, count)
 }
 
 #[no_mangle]
@@ -129,8 +113,7 @@ pub extern "C" fn kaldvemir_kept(s0: &[u16], s1: &[u16], root: u64, kept: &mut u
         × (now (kept .exit) ≡ answers.kept-mark a (now (kept .entry)))) ⌝ }
 {
     let a = canonical::kept(s0, s1, root);
-    *kept = kept_mark(a, *kept);
-    kept_number(a)
+    kept_answer(a, kept)
 }
 
 #[no_mangle]
@@ -154,10 +137,5 @@ pub extern "C" fn kaldvemir_invariants(
         × (now (level .exit) ≡ answers.invariants-level a (now (level .entry)))) ⌝ }
 {
     let a = invariants::invariants(s0, s1, root);
-    *e2 = invariants_e2(a, *e2);
-    *e3 = invariants_e3(a, *e3);
-    *c = invariants_c(a, *c);
-    *t = invariants_t(a, *t);
-    *level = invariants_level(a, *level);
-    invariants_number(a)
+    invariants_answer(a, e2, e3, c, t, level)
 }

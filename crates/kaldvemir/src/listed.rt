@@ -1,12 +1,8 @@
 // Listed diagrams, 1 to 50 edges: counts and positions, and the plain walk.
-use crate::answers::count_number;
-use crate::answers::count_total;
-use crate::answers::entry_length;
-use crate::answers::entry_number;
-use crate::answers::place_number;
-use crate::answers::place_position;
-use crate::answers::walk_count;
-use crate::answers::walk_number;
+use crate::answers::count_answer;
+use crate::answers::entry_answer;
+use crate::answers::place_answer;
+use crate::answers::walk_answer;
 ghost use mathlib.Core.Path.{_≡_};
 ghost use Rattle.positions.specs.Promises.{Counted, Given, Located};
 ghost use Rattle.positions.specs.declared.Total.{Total};
@@ -21,8 +17,7 @@ pub extern "C" fn kaldvemir_count(size: u64, count: &mut u64) -> u16
     ensures { λ r. ⌜ ((a : Total) × Counted size a × (r ≡ answers.count-number a) × (now (count .exit) ≡ answers.count-total a (now (count .entry)))) ⌝ }
 {
     let a = positions::count(size);
-    *count = count_total(a, *count);
-    count_number(a)
+    count_answer(a, count)
 }
 
 #[no_mangle]
@@ -40,20 +35,18 @@ pub extern "C" fn kaldvemir_diagram_at(
         × (now (length .exit) ≡ answers.entry-length a (now (length .entry)))) ⌝ }
 {
     let a = positions::diagram_at(size, position, s0, s1, word);
-    *length = entry_length(a, *length);
-    entry_number(a)
+    entry_answer(a, length)
 }
 
 #[no_mangle]
 pub extern "C" fn kaldvemir_position(s0: &[u16], s1: &[u16], root: u64, position: &mut u64) -> u16
     ensures { λ r. ⌜ ((a : Place)
         × Located (now (s0 .entry)) (now (s1 .entry)) root a
-        × (r ≡ answers.place-number a)
-        × (now (position .exit) ≡ answers.place-position a (now (position .entry)))) ⌝ }
+        × (r ≡ answers.located-number a)
+        × (now (position .exit) ≡ answers.located-position a (now (position .entry)))) ⌝ }
 {
     let a = positions::position(s0, s1, root);
-    *position = place_position(a, *position);
-    place_number(a)
+    place_answer(a, position)
 }
 
 #[no_mangle]
@@ -64,6 +57,5 @@ pub extern "C" fn kaldvemir_plain_walk(size: u64, words: &mut [u16], count: &mut
         × (now (count .exit) ≡ answers.walk-count a (now (count .entry)))) ⌝ }
 {
     let a = walking::plain_walk(size, words);
-    *count = walk_count(a, *count);
-    walk_number(a)
+    walk_answer(a, count)
 }

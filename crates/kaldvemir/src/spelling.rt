@@ -1,8 +1,7 @@
 // Words.
-use crate::answers::letters_length;
-use crate::answers::letters_number;
-use crate::answers::read_number;
-use crate::answers::read_size;
+use crate::answers::letters_answer;
+use crate::answers::read_answer;
+use canonical::least::second_is_lesser;
 ghost use mathlib.Core.Path.{_≡_};
 ghost use lib.ListN.{length};
 ghost use Rattle.lists.specs.Lists.{pick};
@@ -26,16 +25,16 @@ pub extern "C" fn kaldvemir_read_word(
         × (now (size .exit) ≡ answers.read-size a (now (size .entry)))) ⌝ }
 {
     let a = reading::read_word(word, s0, s1);
-    *size = read_size(a, *size);
-    read_number(a)
+    read_answer(a, size)
 }
 
-// 1 where the first of two words is the smaller one or both are equal, 2 where the second is the smaller.
+// 1 where the first of two words is the smaller one or both are equal, 2 where the second is the smaller: which of the two `lesser` hands
+// back.
 #[no_mangle]
-pub extern "C" fn kaldvemir_lesser(first: &[u16], second: &[u16]) -> u16
+pub extern "C" fn kaldvemir_lesser<'a>(first: &'a [u16], second: &'a [u16]) -> u16
     ensures { λ r. ⌜ r ≡ pick (precedes (now (second .entry)) (now (first .entry))) 2 1 ⌝ }
 {
-    if words::precedes(second, first) {
+    if second_is_lesser(first, second) {
         return 2;
     }
     1
@@ -49,6 +48,5 @@ pub extern "C" fn kaldvemir_letters(word: &[u16], letters: &mut [u8], length: &m
         × (now (length .exit) ≡ answers.letters-length a (now (length .entry)))) ⌝ }
 {
     let a = words::letters(word, letters);
-    *length = letters_length(a, *length);
-    letters_number(a)
+    letters_answer(a, length)
 }

@@ -4,24 +4,10 @@ use book::Change;
 use book::Heads;
 ghost use mathlib.Core.Path.{_≡_};
 ghost use Prim.Native.Nat.{_+_, _≤_};
-ghost use lib.ListN.{length, take, drop};
+ghost use lib.ListN.{length};
 ghost use lib.Seq.{paste};
 ghost use Rattle.book.specs.Changes.{headsOf, changed, Placed};
 ghost use Rattle.layout.specs.Layout.{book-of, book-numbers};
-
-// 32 of the numbers.
-fn part(numbers: &[u64; 100], from: usize) -> [u64; 32]
-    requires { ⌜ (length (now numbers) ≡ 100) × (from + 32 ≤ 100) ⌝ }
-    ensures { λ r. ⌜ r ≡ take 32 (drop from (now (numbers .entry))) ⌝ }
-{
-    let mut list = [0u64; 32];
-    let mut i: usize = 0;
-    while i < 32 {
-        list[i] = numbers[from + i];
-        i += 1;
-    }
-    list
-}
 
 // Puts 32 numbers in their place.
 fn put_part(numbers: &mut [u64; 100], from: usize, list: &[u64; 32])
@@ -32,22 +18,6 @@ fn put_part(numbers: &mut [u64; 100], from: usize, list: &[u64; 32])
     while i < 32 {
         numbers[from + i] = list[i];
         i += 1;
-    }
-}
-
-// The book that the numbers are. By value, so that their number is known from their type.
-pub fn held(numbers: [u64; 100]) -> Book
-    ensures book { λ r. ⌜ r ≡ book-of numbers ⌝ }
-    ensures whole { λ _. ⌜ length numbers ≡ 100 ⌝ }
-{
-    Book {
-        size: numbers[0],
-        shares: numbers[1],
-        latest: numbers[2],
-        issued: numbers[3],
-        next: part(&numbers, 4),
-        ticket: part(&numbers, 36),
-        expiry: part(&numbers, 68),
     }
 }
 

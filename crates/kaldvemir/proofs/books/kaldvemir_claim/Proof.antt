@@ -1,19 +1,9 @@
 -- `kaldvemir_claim` meets its contract: the decision on the parts of the 100 numbers, and the change written back.
-use borrow.Author.Needs.{needs}
 use mathlib.Core.Path.{_∙_, ap}
 use Rattle.layout.specs.Layout.{book-numbers}
-use Rattle.kaldvemir.specs.Answers as answers
-use denote.Ref.{now}
-use Rattle.book.specs.declared.types.Claiming.{Claiming}
+use borrow.Author.Needs.{needs}
 use Rattle.kaldvemir.proofs.books.kaldvemir_claim.Statement.{statement}
 use Rattle.kaldvemir.proofs.books.kaldvemir_claim.Tie as tie
-use Rattle.kaldvemir.proofs.books.kaldvemir_claim.Reads as reads
-use Rattle.kaldvemir.proofs.books.kaldvemir_claim.Lts as lts
-use Rattle.cores.proofs.decisions.claim.Reads as claim-reads
-use Rattle.kaldvemir.proofs.answers.claim_number.Reads as claim-number-reads
-use Rattle.kaldvemir.proofs.answers.claim_ticket.Reads as claim-ticket-reads
-use Rattle.layout.proofs.books.change.Reads as change-reads
-use Rattle.layout.proofs.books.heads.Reads as heads-reads
 
 heads-requires : tie.Need-heads-requires
 heads-requires c κs = search needs
@@ -51,19 +41,14 @@ claim-requires c κs = search needs
 change-requires : tie.Need-change-requires
 change-requires c κs = search needs
 
-claim-ticket-requires : tie.Need-claim-ticket-requires
-claim-ticket-requires c κs = search needs
-
-claim-number-requires : tie.Need-claim-number-requires
-claim-number-requires c κs = search needs
+claim-answer-requires : tie.Need-claim-answer-requires
+claim-answer-requires c κs = search needs
 
 returns : tie.Need-returns
 returns c =
-    let k = rw (c .before .before .before .before .before .before .before .before .before .heads .ensures) at (c .before .before .before .before .before .claim .ensures) in (
-      c .claim-number .ensures ∙ ap answers.claim-number (k .0),
-      c .before .claim-ticket .ensures ∙ ap (λ (a : Claiming). answers.claim-ticket a (now (c .before .before .before .before .before .before .before .before .before .before .before .before .args .ticket))) (k .0),
-      c .before .before .before .change .ensures ∙ ap book-numbers (k .1),
-    )
+    let k = rw (c .before .before .before .before .before .before .before .before .heads .ensures) at (c .before .before .before .before .claim .ensures) in
+    let a = rw (k .0) at (c .claim-answer .ensures) in
+    (a .0, a .1, c .before .before .change .ensures ∙ ap book-numbers (k .1))
 
 pub kaldvemir-claim-spec : {M : Type 1} → statement M
 kaldvemir-claim-spec =
@@ -81,6 +66,5 @@ kaldvemir-claim-spec =
     part-claim-end-3
     claim-requires
     change-requires
-    claim-ticket-requires
-    claim-number-requires
+    claim-answer-requires
     returns)

@@ -1,16 +1,10 @@
 -- `kaldvemir_commit` meets its contract: the decision on the parts of the 100 numbers, and the change written back.
-use borrow.Author.Needs.{needs}
 use mathlib.Core.Path.{_∙_, ap}
 use Rattle.layout.specs.Layout.{book-numbers}
 use Rattle.kaldvemir.specs.Answers as answers
+use borrow.Author.Needs.{needs}
 use Rattle.kaldvemir.proofs.books.kaldvemir_commit.Statement.{statement}
 use Rattle.kaldvemir.proofs.books.kaldvemir_commit.Tie as tie
-use Rattle.kaldvemir.proofs.books.kaldvemir_commit.Reads as reads
-use Rattle.kaldvemir.proofs.books.kaldvemir_commit.Lts as lts
-use Rattle.cores.proofs.decisions.commit.Reads as commit-reads
-use Rattle.kaldvemir.proofs.answers.commit_number.Reads as commit-number-reads
-use Rattle.layout.proofs.books.change.Reads as change-reads
-use Rattle.layout.proofs.books.heads.Reads as heads-reads
 
 heads-requires : tie.Need-heads-requires
 heads-requires c κs = search needs
@@ -48,13 +42,13 @@ commit-requires c κs = search needs
 change-requires : tie.Need-change-requires
 change-requires c κs = search needs
 
-commit-number-requires : tie.Need-commit-number-requires
-commit-number-requires c κs = search needs
+commit-answer-requires : tie.Need-commit-answer-requires
+commit-answer-requires c κs = search needs
 
 returns : tie.Need-returns
 returns c =
     let k = rw (c .before .before .before .before .before .before .before .heads .ensures) at (c .before .before .before .commit .ensures) in
-    (c .commit-number .ensures ∙ ap answers.commit-number (k .0), c .before .change .ensures ∙ ap book-numbers (k .1))
+    (c .commit-answer .ensures ∙ ap answers.committing-number (k .0), c .before .change .ensures ∙ ap book-numbers (k .1))
 
 pub kaldvemir-commit-spec : {M : Type 1} → statement M
 kaldvemir-commit-spec =
@@ -72,5 +66,5 @@ kaldvemir-commit-spec =
     part-commit-end-3
     commit-requires
     change-requires
-    commit-number-requires
+    commit-answer-requires
     returns)

@@ -1,40 +1,55 @@
--- `kaldvemir_open` meets its contract: the core's answer and book, by their numbers.
-use Rattle.layout.specs.Layout.{book-numbers}
-use Rattle.kaldvemir.specs.Answers as answers
+-- `kaldvemir_open` meets its contract: what is decided of a blank book is decided of the lent one, which a refusal leaves.
 use mathlib.Core.Path.{_≡_, refl, sym, _∙_, ap}
+use native.Mathlib.Omega.{arith}
+use denote.Ref.{now}
+use lib.ListN.{length}
+use Rattle.book.specs.declared.types.Opening.the-variants.{Opened, Refused}
+use Rattle.book.specs.Calls.{open-answer}
+use Rattle.layout.specs.Layout.{book-of, book-numbers}
+use Rattle.layout.proofs.Changes.{book-again}
+use Rattle.kaldvemir.specs.Answers as answers
+use Rattle.kaldvemir.proofs.Opened.{opening-refused, opening-accepted}
 use borrow.Author.Needs.{needs}
 use Rattle.kaldvemir.proofs.books.kaldvemir_open.Statement.{statement}
 use Rattle.kaldvemir.proofs.books.kaldvemir_open.Tie as tie
-use Rattle.kaldvemir.proofs.books.kaldvemir_open.Reads as reads
-use Rattle.kaldvemir.proofs.books.kaldvemir_open.Lts as lts
-use Rattle.kaldvemir.proofs.answers.open_number.Reads as open-number-reads
-use Rattle.layout.proofs.books.held.Reads as held-reads
-use Rattle.layout.proofs.books.put_back.Reads as put-back-reads
-use Rattle.cores.proofs.open_core.Reads as open-core-reads
 
--- src/books.rt:96:26
-held-requires : tie.Need-held-requires
-held-requires c κs = search needs
+blank-requires : tie.Need-blank-requires
+blank-requires c κs = search needs
 
--- src/books.rt:96:9
 open-core-requires : tie.Need-open-core-requires
 open-core-requires c κs = search needs
 
--- src/books.rt:98:5
+enum-known-answer : tie.Need-enum-known-answer
+enum-known-answer c = search needs
+
+enum-told : tie.Need-enum-told
+enum-told c = search needs
+
 put-back-requires : tie.Need-put-back-requires
 put-back-requires c κs = search needs
 
--- src/books.rt:99:5
-open-number-requires : tie.Need-open-number-requires
-open-number-requires c κs = search needs
-
--- src/books.rt:91:1
 returns : tie.Need-returns
 returns c =
-    let k = rw (c .before .before .before .before .held .ensures .0) at (c .before .before .before .open-core .ensures) in
-    (c .open-number .ensures ∙ ap answers.open-number (k .0), c .before .put-back .ensures ∙ ap book-numbers (k .1))
+    let s = c .before .before .before .before .before .before .before .before .args in
+    let r : open-answer (s .size) (s .shares) ≡ Refused (c .before .answer .given .0 .0) = sym (c .before .before .before .before .before .before .open-core .ensures .0) ∙ c .before .answer .given .1 in
+    let h : length (now (s .book)) ≡ 100 = search needs in
+    (sym (ap answers.opening-number r), sym (ap book-numbers (opening-refused (book-of (now (s .book))) _ _ _ r) ∙ book-again (now (s .book)) h))
+
+returns-2 : tie.Need-returns-2
+returns-2 c =
+    let s = c .before .before .before .before .before .before .before .before .before .args in
+    let k = c .before .before .before .before .before .before .before .open-core .ensures in
+    let r : open-answer (s .size) (s .shares) ≡ Opened = sym (k .0) ∙ c .before .before .enum-told .given .1 in
+    (sym (ap answers.opening-number r), c .put-back .ensures ∙ ap book-numbers (k .1 ∙ opening-accepted _ (book-of (now (s .book))) _ _ r))
 
 pub kaldvemir-open-spec : {M : Type 1} → statement M
 kaldvemir-open-spec =
     tie.close
-    (tie.spec held-requires open-core-requires put-back-requires open-number-requires returns)
+    (tie.spec
+    blank-requires
+    open-core-requires
+    enum-known-answer
+    enum-told
+    put-back-requires
+    returns
+    returns-2)

@@ -1,16 +1,10 @@
 -- `kaldvemir_release` meets its contract: the decision on the parts of the 100 numbers, and the change written back.
-use borrow.Author.Needs.{needs}
 use mathlib.Core.Path.{_∙_, ap}
 use Rattle.layout.specs.Layout.{book-numbers}
 use Rattle.kaldvemir.specs.Answers as answers
+use borrow.Author.Needs.{needs}
 use Rattle.kaldvemir.proofs.books.kaldvemir_release.Statement.{statement}
 use Rattle.kaldvemir.proofs.books.kaldvemir_release.Tie as tie
-use Rattle.kaldvemir.proofs.books.kaldvemir_release.Reads as reads
-use Rattle.kaldvemir.proofs.books.kaldvemir_release.Lts as lts
-use Rattle.cores.proofs.decisions.release.Reads as release-reads
-use Rattle.kaldvemir.proofs.answers.release_number.Reads as release-number-reads
-use Rattle.layout.proofs.books.change.Reads as change-reads
-use Rattle.layout.proofs.books.heads.Reads as heads-reads
 
 heads-requires : tie.Need-heads-requires
 heads-requires c κs = search needs
@@ -48,13 +42,13 @@ release-requires c κs = search needs
 change-requires : tie.Need-change-requires
 change-requires c κs = search needs
 
-release-number-requires : tie.Need-release-number-requires
-release-number-requires c κs = search needs
+release-answer-requires : tie.Need-release-answer-requires
+release-answer-requires c κs = search needs
 
 returns : tie.Need-returns
 returns c =
     let k = rw (c .before .before .before .before .before .before .before .heads .ensures) at (c .before .before .before .release .ensures) in
-    (c .release-number .ensures ∙ ap answers.release-number (k .0), c .before .change .ensures ∙ ap book-numbers (k .1))
+    (c .release-answer .ensures ∙ ap answers.releasing-number (k .0), c .before .change .ensures ∙ ap book-numbers (k .1))
 
 pub kaldvemir-release-spec : {M : Type 1} → statement M
 kaldvemir-release-spec =
@@ -72,5 +66,5 @@ kaldvemir-release-spec =
     part-release-end-3
     release-requires
     change-requires
-    release-number-requires
+    release-answer-requires
     returns)

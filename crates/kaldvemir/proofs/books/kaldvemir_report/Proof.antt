@@ -1,18 +1,7 @@
 -- `kaldvemir_report` meets its contract: the decision on the parts of the 100 numbers.
 use borrow.Author.Needs.{needs}
-use mathlib.Core.Path.{_∙_, ap}
-use denote.Ref.{now}
-use Rattle.book.specs.declared.types.Reporting.{Reporting}
-use Rattle.kaldvemir.specs.Answers as answers
 use Rattle.kaldvemir.proofs.books.kaldvemir_report.Statement.{statement}
 use Rattle.kaldvemir.proofs.books.kaldvemir_report.Tie as tie
-use Rattle.kaldvemir.proofs.books.kaldvemir_report.Reads as reads
-use Rattle.kaldvemir.proofs.books.kaldvemir_report.Lts as lts
-use Rattle.cores.proofs.decisions.report.Reads as report-reads
-use Rattle.kaldvemir.proofs.answers.report_committed.Reads as report-committed-reads
-use Rattle.kaldvemir.proofs.answers.report_complete.Reads as report-complete-reads
-use Rattle.kaldvemir.proofs.answers.report_number.Reads as report-number-reads
-use Rattle.layout.proofs.books.heads.Reads as heads-reads
 
 heads-requires : tie.Need-heads-requires
 heads-requires c κs = search needs
@@ -47,22 +36,13 @@ part-report-end-3 c = search needs
 report-requires : tie.Need-report-requires
 report-requires c κs = search needs
 
-report-committed-requires : tie.Need-report-committed-requires
-report-committed-requires c κs = search needs
-
-report-complete-requires : tie.Need-report-complete-requires
-report-complete-requires c κs = search needs
-
-report-number-requires : tie.Need-report-number-requires
-report-number-requires c κs = search needs
+report-answer-requires : tie.Need-report-answer-requires
+report-answer-requires c κs = search needs
 
 returns : tie.Need-returns
 returns c =
-    let k = rw (c .before .before .before .before .before .before .before .before .before .heads .ensures) at (c .before .before .before .before .before .report .ensures) in (
-      c .report-number .ensures ∙ ap answers.report-number k,
-      c .before .before .before .report-committed .ensures ∙ ap (λ (a : Reporting). answers.report-committed a (now (c .before .before .before .before .before .before .before .before .before .before .before .args .committed))) k,
-      c .before .report-complete .ensures ∙ ap (λ (a : Reporting). answers.report-complete a (now (c .before .before .before .before .before .before .before .before .before .before .before .args .complete))) k,
-    )
+    let k = rw (c .before .before .before .before .before .before .before .heads .ensures) at (c .before .before .before .report .ensures) in
+    rw k at (c .report-answer .ensures)
 
 pub kaldvemir-report-spec : {M : Type 1} → statement M
 kaldvemir-report-spec =
@@ -79,7 +59,5 @@ kaldvemir-report-spec =
     part-report-start-3
     part-report-end-3
     report-requires
-    report-committed-requires
-    report-complete-requires
-    report-number-requires
+    report-answer-requires
     returns)
