@@ -1,44 +1,33 @@
 -- The second list of demand 3: a run tells by its word how many diagrams it has given, and each step moves that number on by one where
--- it writes.
+-- it writes. So the rows that the steps of a history handed back are the listing from that number on.
 use mathlib.Core.Path.{_≡_, refl, sym, ap, _∙_}
-use mathlib.Core.Logic.{_≢_, _⊎_, inl, inr, ⊎-elim, _↔_}
-use mathlib.Core.List.{List, [], _∷_, _++_}
-use Prim.Native.Nat.{ℕ, zero, suc, _+_, _-_, _≤_, _<_}
-use native.Mathlib.Nat.{add-zero, add-suc}
+use mathlib.Core.Logic.{_⊎_, inl, inr, ⊎-elim, _↔_}
+use mathlib.Core.List.{List, [], _∷_, _++_, map}
+use Prim.Native.Nat.{ℕ, zero, suc, _+_, _≤_, _<_}
 use native.Mathlib.Omega.{arith}
-use lib.ListN.{length, replicate, take}
-use lib.Seq.{take-at}
+use lib.ListN.{length, take, drop, getD, List·getD-map}
+use lib.Seq.{take-at, take-all, drop-cons, getD-take}
+use Rattle.lists.specs.Lists.{All}
 use Rattle.lists.specs.Ranges.{Edge}
-use Rattle.words.specs.Outputs.{Short, Written, Untouched}
-use Rattle.counting.specs.Listing.{count}
-use Rattle.counting.specs.Position.{wordAt}
-use Rattle.counting.specs.Diagrams.{diagramAt}
-use Rattle.counting.proofs.Positions.{at-once}
+use Rattle.diagrams.specs.Check.{Accepts}
+use Rattle.words.specs.Order.{Before}
+use Rattle.words.specs.Outputs.{over, Written, Untouched}
+use Rattle.labelling.specs.Labelling.{wordOf}
+use Rattle.counting.specs.Listing.{listing, count, Sorted}
+use Rattle.counting.specs.Position.{wordAt, position}
+use Rattle.counting.specs.Diagrams.{diagramOf, diagramAt}
+use Rattle.counting.proofs.Listing.{listing-sorted}
+use Rattle.counting.proofs.Positions.{at-once, position-at}
+use Rattle.succession.proofs.Places.{word-at}
 use Rattle.running.specs.declared.Run.{Run}
 use Rattle.running.specs.declared.Stepping.{Stepping}
 use Rattle.running.specs.declared.Stepping.the-variants.{Length, End, Refused}
 use Rattle.running.specs.Promises.{fresh, at, finished, given, Stands, Over, Steps}
+use Rattle.listing.proofs.Blocks.{black-length, white-length}
 use Rattle.demands.specs.FirstList.{InPlace}
-use Rattle.demands.specs.SecondList.{Step, Happened, History, writes, written, Does, Accepted, SecondList, SecondListHolds}
-use Rattle.demands.proofs.FirstList.{in-place}
-
--- ---- a run tells how far it is
-
-front : (u v x y : List ℕ) → length u ≡ length v → u ++ x ≡ v ++ y → u ≡ v
-front u v x y l e = sym (take-at u x (length v) l) ∙ ap (take (length v)) e ∙ take-at v y (length v) refl
-
-given-once : (n p n′ p′ : ℕ) → p ≤ count n → p′ ≤ count n′ → given n p ≡ given n′ p′ → (n ≡ n′) × (p ≡ p′)
-given-once n zero n′ zero l l′ e = (ap (λ (r : Run). r .size) e, refl)
-given-once n zero n′ (suc p′) l l′ e = let z : _≡_ {A = ℕ} 0 1 = ap (λ (r : Run). r .stage) e in absurd (omega arith)
-given-once n (suc p) n′ zero l l′ e = let z : _≡_ {A = ℕ} 1 0 = ap (λ (r : Run). r .stage) e in absurd (omega arith)
-given-once n (suc p) n′ (suc p′) l l′ e =
-    let q : n ≡ n′ = ap (λ (r : Run). r .size) e in
-    let w = front (wordAt n (suc p)) (wordAt n′ (suc p′)) _ _ (ap (λ (r : Run). r .length) e) (ap (λ (r : Run). r .items) e) in
-    (q, at-once n (suc p) (suc p′) (omega arith, l) (omega arith, rw (← q) at l′) (w ∙ ap (λ (m : ℕ). wordAt m (suc p′)) (sym q)))
-
-not-over : (n p n′ : ℕ) → given n p ≡ finished n′ → ⊥
-not-over n zero n′ e = let z : _≡_ {A = ℕ} 0 2 = ap (λ (r : Run). r .stage) e in omega arith
-not-over n (suc p) n′ e = let z : _≡_ {A = ℕ} 1 2 = ap (λ (r : Run). r .stage) e in omega arith
+use Rattle.demands.specs.SecondList.{Step, History, writes, written, Row, rowOf, handed, rows, rowAt, IsRow, Does, Accepted, SecondList, SecondListHolds}
+use Rattle.demands.proofs.Runs.{given-once, not-over}
+use Rattle.demands.proofs.FirstList.{in-place, placed-once}
 
 -- the run has given p diagrams, and may have answered "end" if these are all
 abbrev Standing : ℕ → ℕ → Run → Type 0
@@ -75,6 +64,71 @@ module _ (p : ℕ) (end next : Run) (s : Step) where
   does n N End (inr o) ((n′, x, inr T), u) = absurd (not-over n′ (count n′) n (sym (T .0 .is) ∙ o .1 .is))
   does n N (Refused k) S (r, x, u) = let z : 0 + p ≡ p = omega arith in ((x, u), rw (z, x) S)
 
+-- ---- the rows that the steps handed back
+
+-- what was written over the beginning of a list, read off it again
+front-is : (n : ℕ) (x a b : List ℕ) → length x ≡ n → b ≡ over x a → take n b ≡ x
+front-is n x a b l e = ap (take n) e ∙ take-at x (drop (length x) a) n l
+
+row-is : (n p m : ℕ) (s : Step) → p < count n → m ≡ length (wordAt n (suc p))
+    → Written (diagramAt n (suc p)) (wordAt n (suc p)) (s .s0) (s .s1) (s .word) (s .s0-after) (s .s1-after) (s .word-after)
+    → handed n s (Length m) ≡ rowOf (wordAt n (suc p)) ∷ []
+unfolding diagramAt
+row-is n p m s l e w =
+    let v = wordAt n (suc p) in
+    let a = word-at n p l in
+    rw (
+      front-is n (diagramOf v .black) (s .s0) (s .s0-after) (black-length n v a) (w .s0-written),
+      front-is n (diagramOf v .white) (s .s1) (s .s1-after) (white-length n v a) (w .s1-written),
+      front-is m v (s .word) (s .word-after) (sym e) (w .word-written),
+    )
+
+-- the row that a step handed back, before k rows more
+step-rows : (n p k : ℕ) (end next : Run) (s : Step) (a : Stepping) → Does n p end next s a
+    → handed n s a ++ map rowOf (take k (drop (writes a + p) (listing n))) ≡ map rowOf (take (writes a + k) (drop p (listing n)))
+unfolding wordAt count
+step-rows n p k end next s (Length m) d =
+    let z : 1 + p ≡ suc p = omega arith in
+    let y : 1 + k ≡ suc k = omega arith in
+    rw (z, y, drop-cons (listing n) p [] (d .0)) (ap (λ (l : List Row). l ++ map rowOf (take k (drop (suc p) (listing n)))) (row-is n p m s (d .0) (d .2) (d .3)))
+step-rows n p k end next s End d =
+    let z : 0 + p ≡ p = omega arith in
+    let y : 0 + k ≡ k = omega arith in
+    rw (z, y)
+step-rows n p k end next s (Refused r) d =
+    let z : 0 + p ≡ p = omega arith in
+    let y : 0 + k ≡ k = omega arith in
+    rw (z, y)
+
+-- the rows of a history from a run that has given p diagrams: the listing from there on
+pub rows-all : (n : ℕ) → Edge 50 n → (steps : List Step) (run end : Run) (p : ℕ) → Standing n p run → History run steps end
+    → rows n steps ≡ map rowOf (take (written steps) (drop p (listing n)))
+rows-all n N [] run end p S h = refl
+rows-all n N (s ∷ steps) run end p S h =
+    let d = does p run (h .0) s n N (s .answer) S (h .1) in
+    ap (λ (l : List Row). handed n s (s .answer) ++ l) (rows-all n N steps (h .0) end (writes (s .answer) + p) (d .1) (h .2))
+    ∙ step-rows n p (written steps) run (h .0) s (s .answer) (d .0)
+
+-- the words of the rows of words
+pub words-rows : (ws : List (List ℕ)) → map (λ (r : Row). r .word) (map rowOf ws) ≡ ws
+words-rows [] = refl
+words-rows (w ∷ ws) = ap (λ (l : List (List ℕ)). w ∷ l) (words-rows ws)
+
+-- what a list keeps where it is cut short
+all-take : (P : List ℕ → Type 0) (k : ℕ) (ws : List (List ℕ)) → All P ws → All P (take k ws)
+all-take P zero ws a = tt
+all-take P (suc k) [] a = tt
+all-take P (suc k) (w ∷ ws) a = (a .0, all-take P k ws (a .1))
+
+sorted-take : (k : ℕ) (ws : List (List ℕ)) → Sorted ws → Sorted (take k ws)
+sorted-take zero ws s = tt
+sorted-take (suc k) [] s = tt
+sorted-take (suc k) (w ∷ ws) s = (all-take (Before w) k ws (s .0), sorted-take k ws (s .1))
+
+-- the row at a position below the number of rows
+pub row-at : (ws : List (List ℕ)) (k i : ℕ) → i < k → rowAt (map rowOf (take k ws)) (suc i) ≡ rowOf (getD ws i [])
+row-at ws k i l = List·getD-map rowOf (take k ws) i [] ∙ ap rowOf (getD-take k ws i [] l)
+
 -- ---- the whole list
 
 standing-all : (n : ℕ) → Edge 50 n → (steps : List Step) (run end : Run) (p : ℕ) → Standing n p run → History run steps end → Standing n (written steps + p) end
@@ -88,13 +142,68 @@ ends n p end next s (Length m) d c = (λ e. (let z : _≡_ {A = ℕ} 0 1 = cc in
 ends n p end next s End d c = (λ e. d .0, λ e. refl)
 ends n p end next s (Refused k) d c = absurd c
 
-second-list : (n : ℕ) → Edge 50 n → (p : ℕ) (end : Run) → Standing n p end → SecondList n p end
-second-list n N p end S = record {
-  next-step = λ next s h. does p end next s n N (s .answer) S h .0;
-  end-exactly = λ next s h c. ends n p end next s (s .answer) (does p end next s n N (s .answer) S h .0) c;
-}
+-- ---- the theorem
+
+module _ (n : ℕ) (N : Edge 50 n) (steps : List Step) (end : Run) (S : Standing n (written steps) end) (g : rows n steps ≡ map rowOf (take (written steps) (listing n))) where
+  abbrev p : ℕ
+  p = written steps
+
+  no-more : p ≤ count n
+  no-more = ⊎-elim (λ T. T .within) (λ o. (let e = o .0 in omega arith)) S
+
+  finished-all : end ≡ finished n → p ≡ count n
+  finished-all e = ⊎-elim (λ T. absurd (not-over n p n (sym (T .is) ∙ e))) (λ o. o .0) S
+
+  row-in-place : (q : ℕ) → Edge p q → InPlace n q × (rowAt (rows n steps) q ≡ record { diagram = diagramAt n q; word = wordAt n q })
+  unfolding wordAt diagramAt
+  row-in-place zero e = absurd (omega arith)
+  row-in-place (suc i) e = (in-place n N (suc i) (let l = no-more in omega arith), rw g (row-at (listing n) p i (e .1)))
+
+  -- the diagram of the row at q
+  row-diagram : (q : ℕ) → Edge p q → rowAt (rows n steps) q .diagram ≡ diagramAt n q
+  row-diagram q e = ap (λ (r : Row). r .diagram) (row-in-place q e .1)
+
+  never-twice : (q r : ℕ) → Edge p q → Edge p r → IsRow (rowAt (rows n steps) q .diagram .black) (rowAt (rows n steps) q .diagram .white) 1 (rowAt (rows n steps) r) → q ≡ r
+  never-twice q r e f i =
+      let Q = row-in-place q e .0 in
+      let R = row-in-place r f .0 in
+      let P = placed-once n (diagramAt n q .black) (diagramAt n q .white) 1 (Q .in-form .accepted) (Q .sized) (omega arith) in
+      sym (position-at n q (Q .counted)) ∙ ap (position n) (sym (Q .its-word)) ∙ sym (P .2 r (R .counted) (rw (row-diagram q e, row-diagram r f) at i))
+
+  whole : p ≡ count n → rows n steps ≡ map rowOf (listing n)
+  unfolding count
+  whole e = g ∙ ap (map rowOf) (take-all p (listing n) (omega arith))
+
+  each-once : p ≡ count n → (s0 s1 : List ℕ) (root : ℕ) → Accepts s0 s1 root → length s0 ≡ n
+      → (q : ℕ) × Edge p q × IsRow s0 s1 root (rowAt (rows n steps) q) × ((r : ℕ) → Edge p r → IsRow s0 s1 root (rowAt (rows n steps) r) → r ≡ q)
+  each-once c s0 s1 root A l =
+      let P = placed-once n s0 s1 root A l (omega arith) in
+      let i : Edge p (position n (wordOf s0 s1 root)) = rw c (P .0) in (
+        position n (wordOf s0 s1 root),
+        i,
+        rw (row-in-place (position n (wordOf s0 s1 root)) i .1) (P .1),
+        λ r f x. P .2 r (rw c at f) (rw (row-in-place r f .1) at x),
+      )
+
+  second-list : SecondList n steps end
+  second-list = record {
+    given = g;
+    no-more = no-more;
+    in-order = rw (g, words-rows (take p (listing n))) (sorted-take p (listing n) (listing-sorted n));
+    never-twice = never-twice;
+    in-place = row-in-place;
+    finished-all = finished-all;
+    whole = whole;
+    each-once = each-once;
+    next-step = λ next s h. does p end next s n N (s .answer) S h .0;
+    end-exactly = λ next s h c. ends n p end next s (s .answer) (does p end next s n N (s .answer) S h .0) c;
+  }
+
+-- a begun run has given none
+begun : (n : ℕ) (run : Run) → Edge 50 n × (run ≡ fresh n) → Standing n 0 run
+begun n run B = inl record { sized = B .0; within = omega arith; is = B .1 }
 
 pub second-list-holds : SecondListHolds
-second-list-holds n N steps end h =
+second-list-holds n run B steps end h =
     let z : written steps + 0 ≡ written steps = omega arith in
-    second-list n N (written steps) end (rw z at (standing-all n N steps (fresh n) end 0 (inl record { sized = N; within = omega arith; is = refl }) h))
+    second-list n (B .0) steps end (rw z at (standing-all n (B .0) steps run end 0 (begun n run B) h)) (rows-all n (B .0) steps run end 0 (begun n run B) h)

@@ -1,5 +1,9 @@
 -- What follows from the first list of demand 3 and users will look for. The book b is the one that any list of calls from an opened book
 -- left, C the positions that the list has committed.
+--
+--   Powerless b tick t      a session with the ticket t can neither commit nor release nor take at that tick
+--   SameShare b b′ j        share j's entries are as they were
+--   Corollaries n k b C     the statements;  CorollariesHold, that they hold after every list of calls
 use mathlib.Core.Path.{_≡_}
 use mathlib.Core.Logic.{_≢_, _⊎_}
 use mathlib.Core.Bool.{true}
@@ -18,13 +22,11 @@ use Rattle.book.specs.Calls.{open-answer, open-book, take-answer, commit-answer
 use Rattle.book.specs.Holding.{Holds}
 use Rattle.demands.specs.FirstList.{Call, afterAll, commits}
 
--- a session with the ticket t can neither commit nor release nor take at that tick
 pub record Powerless (b : Book) (tick t : ℕ) : Type 0 where
   pub no-commit : (p : ℕ) → commit-answer b tick t p ≢ Committed
   pub no-release : release-answer b tick t ≢ Released
   pub no-take : (l0 l1 lw j p m : ℕ) → take-answer b tick t l0 l1 lw ≢ Given j p m
 
--- share j's entries are as they were
 pub record SameShare (b b′ : Book) (j : ℕ) : Type 0 where
   pub same-next : next b′ j ≡ next b j
   pub same-ticket : ticket b′ j ≡ ticket b j

@@ -1,6 +1,13 @@
+pub mod Listing
+pub mod Invariants
 pub mod Demand2
+pub mod KeepMark
 pub mod FirstList
 pub mod SecondList
-pub mod Listing
+pub mod Blocks
 pub mod Demand3
 pub mod Corollaries
+pub mod BookNumbers
+pub mod Determined
+pub mod Table
+pub mod Theorems
