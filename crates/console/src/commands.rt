@@ -3,6 +3,7 @@ use console_diagrams::given;
 use console_diagrams::listing;
 use console_diagrams::spelling;
 use console_lines::answers::error;
+use console_state::blocks;
 use console_state::books;
 use console_state::fields;
 use console_state::runs;
@@ -36,12 +37,18 @@ fn on_words(name: &[u8], line: &[u8], words: Words, out: &mut [u8], at: usize) -
     if is(name, b"lesser") {
         return spelling::lesser(line, words, out, at);
     }
+    if is(name, b"letters") {
+        return spelling::letters(line, words, out, at);
+    }
     on_sizes(name, line, words, out, at)
 }
 
 fn on_diagrams(name: &[u8], line: &[u8], words: Words, out: &mut [u8], at: usize) -> usize {
     if is(name, b"check") {
         return given::check(line, words, out, at);
+    }
+    if is(name, b"reached") {
+        return given::reached(line, words, out, at);
     }
     if is(name, b"relabel") {
         return given::relabel(line, words, out, at);
@@ -126,6 +133,12 @@ pub fn command(line: &[u8], state: State, out: &mut [u8], at: usize) -> Done {
     }
     if is(name, b"step") {
         return runs::step(line, words, state, out, at);
+    }
+    if is(name, b"list") {
+        return blocks::list(line, words, state, out, at);
+    }
+    if is(name, b"marked") {
+        return blocks::marked(line, words, state, out, at);
     }
     on_book(name, line, words, state, out, at)
 }

@@ -1,9 +1,10 @@
 // Reads commands from standard input, one a line, and writes one line for each to standard output, so that every operation can be tried
 // from a shell. Words are parted by one space. A list is decimal numbers up to 65,535, parted by commas, at most 2,048 of them, and `-` is
-// the empty list; other numbers fit 64 bits. ROOMS are lengths of the output lists, which are long enough where they are left out. A line
-// of any other form, or of more than 65,536 bytes, prints `error` and alters nothing. Every refusal prints `refused N`.
+// the empty list; other numbers fit 64 bits. ROOMS, in brackets, are lengths of the output lists, which are long enough where they are left out.
+// A line of any other form, or of more than 65,536 bytes, prints `error` and alters nothing. Every refusal prints `refused N`.
 //
 //   check S0 S1 ROOT                               ok
+//   reached MARKS                                  yes or no: every mark is 1; a number above 255 is no mark
 //   relabel S0 S1 ROOT [R0 R1 RW]                  S0 S1 WORD
 //   compare rooted S0 S1 ROOT S0 S1 ROOT           same or different; refused N side K
 //   compare unrooted S0 S1 ROOT S0 S1 ROOT         the same
@@ -12,12 +13,16 @@
 //   kept S0 S1 ROOT                                yes or no
 //   read WORD [R0 R1]                              S0 S1
 //   lesser A B                                     1 A or 2 B, the list that is handed back
+//   letters WORD [ROOM]                            the word's letters, `-` for none
 //   count N                                        the number of diagrams of that size
 //   at N P [R0 R1 RW]                              S0 S1 WORD
 //   position S0 S1 ROOT                            its number
 //   walk N [ROOM]                                  how many numbers, and the numbers
 //   begin N                                        ok
 //   step [R0 R1 RW]                                S0 S1 WORD or end; a step before any accepted begin is refused 34
+//   list ROWS [R0 R1 RW RL]                        how many diagrams of the run, at most ROWS; their black lists, white lists, words and the
+//                                                  words' lengths, each one after another; lists of 2,048 places where the rooms are left out
+//   marked ROWS [R0 R1 RW RL RM]                   the same, and the keep marks
 //   open N K                                       ok
 //   claim TICK SHARE LENGTH                        ticket T
 //   take TICK TICKET [R0 R1 RW]                    share J position P S0 S1 WORD

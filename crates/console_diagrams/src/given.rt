@@ -11,11 +11,13 @@ use console_lines::answers::refused;
 use console_lines::arguments::MAX_ENTRIES;
 use console_lines::arguments::diagram;
 use console_lines::arguments::three_rooms;
+use diagrams::Diagram;
 use diagrams::Verdict;
 use invariants::Measured;
 use invariants::Numbers;
 use lines::Words;
 use lines::is;
+use lines::list;
 use lines::put_byte;
 use lines::put_number;
 use lines::put_signed;
@@ -32,7 +34,8 @@ pub fn check(line: &[u8], words: Words, out: &mut [u8], at: usize) -> usize {
     }
     let n0 = given.n0;
     let n1 = given.n1;
-    let verdict = diagrams::check(&s0[0..n0], &s1[0..n1], given.root);
+    let made = Diagram::checked(&s0[0..n0], &s1[0..n1], given.root);
+    let verdict = made.verdict;
     match verdict {
         Verdict::Accepted => ok(out, at),
         Verdict::Refused(k) => refused(out, at, k),
@@ -198,4 +201,42 @@ pub fn kept(line: &[u8], words: Words, out: &mut [u8], at: usize) -> usize {
         KeepMark::No => put_text(out, at, b"no"),
         KeepMark::Refused(k) => refused(out, at, k),
     }
+}
+
+// The marks that a list of numbers is, written at the beginning of marks; false where a number is no byte.
+fn narrow(items: &[u16], marks: &mut [u8]) -> bool {
+    if marks.len() < items.len() {
+        return false;
+    }
+    let mut i: usize = 0;
+    while i < items.len() {
+        let x = items[i];
+        if 255 < x {
+            return false;
+        }
+        marks[i] = x as u8;
+        i += 1;
+    }
+    true
+}
+
+fn put_reached(items: &[u16], marks: &mut [u8], out: &mut [u8], at: usize) -> usize {
+    if !narrow(items, marks) {
+        return error(out, at);
+    }
+    if diagrams::all_reached(marks) {
+        return put_text(out, at, b"yes");
+    }
+    put_text(out, at, b"no")
+}
+
+pub fn reached(line: &[u8], words: Words, out: &mut [u8], at: usize) -> usize {
+    let mut items = [0u16; MAX_ENTRIES];
+    let given = list(word(line, words, 1), &mut items);
+    if !given.good || words.count != 2 {
+        return error(out, at);
+    }
+    let n = given.length;
+    let mut marks = [0u8; MAX_ENTRIES];
+    put_reached(&items[0..n], &mut marks[0..n], out, at)
 }

@@ -100,7 +100,7 @@ fn put_walk(size: u64, list: &mut [u16], out: &mut [u8], at: usize) -> usize {
 
 pub fn walk(line: &[u8], words: Words, out: &mut [u8], at: usize) -> usize {
     let size = number(word(line, words, 1));
-    let room = one_room(line, words, 2);
+    let room = one_room(line, words, 2, MAX_ENTRIES);
     if !size.good || !room.good {
         return error(out, at);
     }

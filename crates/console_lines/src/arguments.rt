@@ -33,26 +33,33 @@ pub fn diagram(line: &[u8], words: Words, k: usize, s0: &mut [u16], s1: &mut [u1
     }
 }
 
-// The length of an output list. No answer is longer than the array, so a room that exceeds it is taken as the whole of it.
+// The length of an output list of at most so many places. No answer is longer than the array that holds the list, so a room that exceeds it is
+// taken as the whole of it.
 pub struct Length {
     pub good: bool,
     pub length: usize,
 }
 
-pub fn room(line: &[u8], words: Words, k: usize) -> Length
-    ensures { λ r. ⌜ r .length ≤ 2048 ⌝ }
+fn room_within(line: &[u8], words: Words, k: usize, most: usize) -> Length
+    ensures { λ r. ⌜ r .length ≤ most ⌝ }
 {
     let parsed = number(word(line, words, k));
-    if MAX_ENTRIES as u64 <= parsed.value {
+    if most as u64 <= parsed.value {
         return Length {
             good: parsed.good,
-            length: MAX_ENTRIES,
+            length: most,
         };
     }
     Length {
         good: parsed.good,
         length: parsed.value as usize,
     }
+}
+
+pub fn room(line: &[u8], words: Words, k: usize) -> Length
+    ensures { λ r. ⌜ r .length ≤ 2048 ⌝ }
+{
+    room_within(line, words, k, MAX_ENTRIES)
 }
 
 // The rooms for a diagram and its word.
@@ -110,20 +117,58 @@ pub fn two_rooms(line: &[u8], words: Words, k: usize) -> Lengths
     }
 }
 
-// ROOM, or nothing, at the end of the line
-pub fn one_room(line: &[u8], words: Words, k: usize) -> Length
+// ROOM, or nothing, at the end of the line, for an output list of at most so many places
+pub fn one_room(line: &[u8], words: Words, k: usize, most: usize) -> Length
     requires { ⌜ k ≤ 8 ⌝ }
-    ensures { λ r. ⌜ r .length ≤ 2048 ⌝ }
+    ensures { λ r. ⌜ r .length ≤ most ⌝ }
 {
     if words.count == k {
         return Length {
             good: true,
-            length: MAX_ENTRIES,
+            length: most,
         };
     }
-    let only = room(line, words, k);
+    let only = room_within(line, words, k, most);
     Length {
         good: words.count == k + 1 && only.good,
         length: only.length,
+    }
+}
+
+// The rooms for the diagrams of a block, their words and the lengths of these.
+pub struct Rooms {
+    pub good: bool,
+    pub s0: usize,
+    pub s1: usize,
+    pub words: usize,
+    pub lengths: usize,
+}
+
+// R0 R1 RW RL in a line of so many words, or nothing
+pub fn four_rooms(line: &[u8], words: Words, k: usize, count: usize) -> Rooms
+    requires { ⌜ k ≤ 8 ⌝ }
+    ensures { λ r. ⌜ (r .s0 ≤ 2048) × (r .s1 ≤ 2048) × (r .words ≤ 2048) × (r .lengths ≤ 2048) ⌝ }
+{
+    if words.count == k {
+        return Rooms {
+            good: true,
+            s0: MAX_ENTRIES,
+            s1: MAX_ENTRIES,
+            words: MAX_ENTRIES,
+            lengths: MAX_ENTRIES,
+        };
+    }
+    let black = room(line, words, k);
+    let white = room(line, words, k + 1);
+    let items = room(line, words, k + 2);
+    let lengths = room(line, words, k + 3);
+    let lists = black.good && white.good;
+    let rest = items.good && lengths.good;
+    Rooms {
+        good: words.count == count && lists && rest,
+        s0: black.length,
+        s1: white.length,
+        words: items.length,
+        lengths: lengths.length,
     }
 }

@@ -1,4 +1,4 @@
-// The operations on the share book, which they alter. A refused one hands back the book as it was.
+// The operations on the share book, which is lent to them. A refused one hands it back as it was.
 use crate::state::Done;
 use crate::state::State;
 use crate::state::with_book;
@@ -16,12 +16,6 @@ use console_lines::answers::put_next;
 use console_lines::answers::refused;
 use console_lines::arguments::MAX_ENTRIES;
 use console_lines::arguments::three_rooms;
-use cores::claim_core;
-use cores::commit_core;
-use cores::open_core;
-use cores::release_core;
-use cores::report_core;
-use cores::take_core;
 use lines::Words;
 use lines::number;
 use lines::put_byte;
@@ -50,7 +44,7 @@ pub fn open(line: &[u8], words: Words, state: State, out: &mut [u8], at: usize) 
         return unread(state, out, at);
     }
     let before = state.book;
-    let opened = open_core(before, size.value, shares.value);
+    let opened = lending::open(before, size.value, shares.value);
     let book = opened.book;
     let answer = opened.answer;
     Done {
@@ -77,7 +71,7 @@ pub fn claim(line: &[u8], words: Words, state: State, out: &mut [u8], at: usize)
         return unread(state, out, at);
     }
     let before = state.book;
-    let claimed = claim_core(before, tick.value, share.value, length.value);
+    let claimed = lending::claim(before, tick.value, share.value, length.value);
     let book = claimed.book;
     let answer = claimed.answer;
     Done {
@@ -128,7 +122,7 @@ fn put_taken(
     out: &mut [u8],
     at: usize,
 ) -> Taken {
-    let taken = take_core(before, tick, ticket, s0, s1, word);
+    let taken = lending::take(before, tick, ticket, s0, s1, word);
     let book = taken.book;
     let answer = taken.answer;
     let n = before.size as usize;
@@ -184,7 +178,7 @@ pub fn commit(line: &[u8], words: Words, state: State, out: &mut [u8], at: usize
         return unread(state, out, at);
     }
     let before = state.book;
-    let committed = commit_core(before, tick.value, ticket.value, position.value);
+    let committed = lending::commit(before, tick.value, ticket.value, position.value);
     let book = committed.book;
     let answer = committed.answer;
     Done {
@@ -207,7 +201,7 @@ pub fn release(line: &[u8], words: Words, state: State, out: &mut [u8], at: usiz
         return unread(state, out, at);
     }
     let before = state.book;
-    let released = release_core(before, tick.value, ticket.value);
+    let released = lending::release(before, tick.value, ticket.value);
     let book = released.book;
     let answer = released.answer;
     Done {
@@ -220,7 +214,7 @@ pub fn report(words: Words, book: Book, out: &mut [u8], at: usize) -> usize {
     if words.count != 1 {
         return error(out, at);
     }
-    let answer = report_core(book);
+    let answer = lending::report(book);
     match answer {
         Reporting::Progress {
             committed,

@@ -1,5 +1,4 @@
 // A line for each call: what is called, and what it answers. Each hands back the book that the call leaves.
-use crate::lending;
 use libc::STDOUT_FILENO;
 use sharing::Book;
 use sharing::Claiming;

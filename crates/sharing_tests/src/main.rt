@@ -1,5 +1,5 @@
-// The share book, case by case. Each line of standard input is a call with its text, which prints a line, and the book that it leaves is the
-// next line's. The file stdout was written from document 01, by hand. The lines are:
+// The share book, case by case, lent to each call by crate lending. Each line of standard input is a call with its text, which prints a line,
+// and the book that it leaves is the next line's. The file stdout was written from document 01, by hand. The lines are:
 //
 //   open SIZE K TEXT
 //   claim TICK SHARE LENGTH TEXT
@@ -16,7 +16,6 @@
 mod books;
 mod calls;
 mod cases;
-mod lending;
 
 use books::blank;
 use cases::case;
