@@ -157,6 +157,7 @@ module _ (n k : ℕ) (N : Edge 50 n) (K : Edge 32 k) (calls : List Call) where
       let H = due-held t j T in
       record {
         sized = ledger .sized;
+        some-ticket = T .some;
         stands = T .is;
         is-next = refl;
         held = H;

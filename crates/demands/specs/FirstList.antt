@@ -18,7 +18,7 @@
 -- position p (book, Holding); diagramAt n p, wordAt n p (counting); Written (words, Outputs); Accepts, RootAlike (diagrams);
 -- Characteristic (Demand2); Has, Apart (lists).
 use mathlib.Core.Path.{_≡_}
-use mathlib.Core.Logic.{_↔_}
+use mathlib.Core.Logic.{_≢_, _↔_}
 use mathlib.Core.Bool.{Bool, true}
 use mathlib.Core.List.{List, [], _∷_, _++_}
 use Prim.Native.Nat.{ℕ, suc, _≤_, _<_}
@@ -91,10 +91,11 @@ pub record InPlace (n p : ℕ) : Type 0 where
   pub sized : length (diagramAt n p .black) ≡ n
   pub its-word : wordOf (diagramAt n p .black) (diagramAt n p .white) 1 ≡ wordAt n p
 
--- the position p is due at the ticket t in the book b, C being committed so far: share j is where the ticket stands, p is j's next position in
--- the book, and it is the first position of j that is not in C
+-- the position p is due at the ticket t in the book b, C being committed so far: share j is where the ticket, which is not 0, stands, p is j's
+-- next position in the book, and it is the first position of j that is not in C
 pub record Due (n k : ℕ) (b : Book) (C : List ℕ) (t j p : ℕ) : Type 0 where
   pub sized : b .size ≡ n
+  pub some-ticket : t ≢ 0
   pub stands : ticket b j ≡ t
   pub is-next : next b j ≡ p
   pub held : Holds n k j p
