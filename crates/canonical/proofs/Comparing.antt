@@ -12,7 +12,7 @@ use Rattle.labelling.specs.Labelling.{wordOf}
 use Rattle.labelling.proofs.OfLists.{alike-words, words-alike}
 use Rattle.labelling.proofs.Rootings.{rooting-alike, alike-rooting}
 use Rattle.labelled.specs.Traced.{Traced}
-use Rattle.canonical.specs.Among.{SomeRooting}
+use Rattle.rootings.specs.Among.{SomeRooting}
 
 module _ (s0 s1 : List ℕ) (r : ℕ) (t0 t1 : List ℕ) (q : ℕ) (A : Accepts s0 s1 r) (B : Accepts t0 t1 q) (w : List ℕ) (e : w ≡ wordOf t0 t1 q) (b : Bool) where
   -- by a trace of the first along the second's word

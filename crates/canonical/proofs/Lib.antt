@@ -1,4 +1,2 @@
-pub mod LesserPart
-pub mod Tried
 pub mod Comparing
 pub mod Written

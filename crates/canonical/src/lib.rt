@@ -1,8 +1,5 @@
 // The operations that stand on the labelling: relabel, the characteristic labelling by value, compare, symmetries, kept. Each first checks
 // the diagrams it is lent (refusals 1 to 8); what it does with accepted ones is a function of its own, which makes the arrays once.
-pub mod least;
-pub mod rootings;
-
 use diagrams::Diagram;
 use diagrams::Made;
 use diagrams::Verdict;

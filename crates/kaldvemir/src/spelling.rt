@@ -1,7 +1,7 @@
 // Words.
 use crate::answers::letters_answer;
 use crate::answers::read_answer;
-use canonical::least::second_is_lesser;
+use rootings::least::second_is_lesser;
 ghost use mathlib.Core.Path.{_≡_};
 ghost use lib.ListN.{length};
 ghost use Rattle.lists.specs.Lists.{pick};

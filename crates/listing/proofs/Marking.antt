@@ -18,7 +18,7 @@ use Rattle.labelling.specs.Labelling.{wordOf}
 use Rattle.labelling.specs.Rootings.{Kept}
 use Rattle.labelling.proofs.OfLists.{spelled-wordOf, spelled-accepted}
 use Rattle.labelled.specs.Scratch.{Ready}
-use Rattle.canonical.specs.Among.{NoneBefore}
+use Rattle.rootings.specs.Among.{NoneBefore}
 use Rattle.counting.specs.Listing.{count}
 use Rattle.counting.specs.Position.{wordAt}
 use Rattle.counting.specs.Diagrams.{diagramAt}

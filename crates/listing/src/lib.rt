@@ -3,10 +3,10 @@
 // then 9, an output list that is short. Fewer rows than asked for: the list ended, and the run is finished. Each diagram is drawn from the one
 // before it, from where their words differ. With marks, the keep mark of each diagram comes too: the arrays of a labelling are made once for
 // the block, and no diagram that was written here is checked.
-use canonical::rootings::none_before;
 use drawing::redraw;
 use lists::fill;
 use lists::wide;
+use rootings::none_before;
 use running::Run;
 use running::sound;
 use succession::successor;
@@ -19,7 +19,7 @@ ghost use lib.ListN.{length};
 ghost use Rattle.diagrams.specs.Check.{Accepts};
 ghost use Rattle.labelling.specs.Labelling.{wordOf};
 ghost use Rattle.labelled.specs.Scratch.{Ready};
-ghost use Rattle.canonical.specs.Among.{NoneBefore};
+ghost use Rattle.rootings.specs.Among.{NoneBefore};
 ghost use Rattle.drawing.specs.Drawn.{Long};
 ghost use Rattle.running.specs.Promises.{Stands};
 ghost use Rattle.listing.specs.Filling.{Room, Begin, Row, Holds, Marked};

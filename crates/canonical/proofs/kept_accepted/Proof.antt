@@ -7,7 +7,7 @@ use lib.ListN.{length}
 use lib.Seq.{length-take-le}
 use Rattle.labelling.specs.Rootings.{Kept}
 use Rattle.labelled.proofs.Arrays.{zeros-ready}
-use Rattle.canonical.specs.Among.{NoneBefore}
+use Rattle.rootings.specs.Among.{NoneBefore}
 use Rattle.canonical.proofs.kept_accepted.Statement.{statement}
 use Rattle.canonical.proofs.kept_accepted.Tie as tie
 

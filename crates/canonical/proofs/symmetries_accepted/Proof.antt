@@ -8,7 +8,7 @@ use lib.Seq.{length-take-le}
 use Rattle.labelling.specs.Rootings.{symmetries}
 use Rattle.labelling.proofs.Rootings.{accepts-rerooted}
 use Rattle.labelled.proofs.Arrays.{zeros-ready}
-use Rattle.canonical.specs.Among.{rootingsWith}
+use Rattle.rootings.specs.Among.{rootingsWith}
 use Rattle.canonical.proofs.symmetries_accepted.Statement.{statement}
 use Rattle.canonical.proofs.symmetries_accepted.Tie as tie
 

@@ -8,8 +8,8 @@ use lib.ListN.{length}
 use lib.Seq.{length-take-le}
 use Rattle.words.proofs.Order.{lesser-first}
 use Rattle.labelling.specs.Labelling.{wordOf}
-use Rattle.canonical.proofs.rootings.comes_before.Statement.{statement}
-use Rattle.canonical.proofs.rootings.comes_before.Tie as tie
+use Rattle.rootings.proofs.comes_before.Statement.{statement}
+use Rattle.rootings.proofs.comes_before.Tie as tie
 
 -- what the trace has written is within its list
 written : (c : tie.After-trace) → c .trace .result ≤ length (c .trace .last .1 .1 .1 .1 .1 .1 .1 .1 .0)

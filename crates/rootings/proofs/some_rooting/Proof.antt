@@ -11,10 +11,10 @@ use lib.Seq.{length-take-le}
 use Rattle.lists.specs.Ranges.{Edge}
 use Rattle.labelling.specs.Labelling.{wordOf}
 use Rattle.labelling.proofs.Rootings.{accepts-rerooted}
-use Rattle.canonical.specs.Among.{SomeRooting}
-use Rattle.canonical.proofs.Tried.{Tried, unlike-more, some-found}
-use Rattle.canonical.proofs.rootings.some_rooting.Statement.{statement}
-use Rattle.canonical.proofs.rootings.some_rooting.Tie as tie
+use Rattle.rootings.specs.Among.{SomeRooting}
+use Rattle.rootings.proofs.Tried.{Tried, unlike-more, some-found}
+use Rattle.rootings.proofs.some_rooting.Statement.{statement}
+use Rattle.rootings.proofs.some_rooting.Tie as tie
 
 abbrev Inv-loop : tie.InvT-loop
 Inv-loop s0 s1 labels₀ order₀ next₀ prev₀ own cand₀ n x₀ labels order next prev cand x = Tried s0 n labels order next prev cand₀ cand x × ((y : ℕ) → Edge x y → wordOf s0 s1 y ≢ own)

@@ -1,9 +1,9 @@
 -- `second_by_length` meets its contract: the part handed back has the length of one of the two lists, and these are unlike.
 use borrow.Author.Needs.{needs}
 use denote.Ref.{now}
-use Rattle.canonical.proofs.LesserPart.{lesser-length}
-use Rattle.canonical.proofs.least.second_by_length.Statement.{statement}
-use Rattle.canonical.proofs.least.second_by_length.Tie as tie
+use Rattle.rootings.proofs.LesserPart.{lesser-length}
+use Rattle.rootings.proofs.least.second_by_length.Statement.{statement}
+use Rattle.rootings.proofs.least.second_by_length.Tie as tie
 
 lesser-requires : tie.Need-lesser-requires
 lesser-requires c κs = search needs

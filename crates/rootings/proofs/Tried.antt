@@ -15,7 +15,7 @@ use Rattle.words.proofs.Order.{precedes-true, precedes-false, same-true, same-s
 use Rattle.labelling.specs.Labelling.{wordOf}
 use Rattle.labelled.specs.Scratch.{Ready}
 use Rattle.labelled.specs.Traced.{Traced}
-use Rattle.canonical.specs.Among.{NoneBefore, SomeRooting}
+use Rattle.rootings.specs.Among.{NoneBefore, SomeRooting}
 
 -- x of the n rootings are tried; the arrays are fit for the next, and the list of the trace keeps its length
 pub record Tried (s0 : List ℕ) (n : ℕ) (la od nx pv cand₀ cand : List ℕ) (x : ℕ) : Type 0 where

@@ -6,10 +6,10 @@ use denote.Ref.{now}
 use lib.ListN.{length}
 use lib.Seq.{length-take-le}
 use Rattle.words.proofs.Order.{precedes-past}
-use Rattle.canonical.proofs.LesserPart.{without-last, without-last-of-first}
+use Rattle.rootings.proofs.LesserPart.{without-last, without-last-of-first}
 use borrow.Author.Needs.{needs}
-use Rattle.canonical.proofs.least.second_is_lesser.Statement.{statement}
-use Rattle.canonical.proofs.least.second_is_lesser.Tie as tie
+use Rattle.rootings.proofs.least.second_is_lesser.Statement.{statement}
+use Rattle.rootings.proofs.least.second_is_lesser.Tie as tie
 
 second-by-length-requires : tie.Need-second-by-length-requires
 second-by-length-requires c κs = search needs

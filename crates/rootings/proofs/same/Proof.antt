@@ -7,8 +7,8 @@ use denote.Ref.{now}
 use lib.ListN.{length, drop}
 use Rattle.words.specs.Order.{same}
 use Rattle.words.proofs.Order.{same-false, same-from, same-by, same-over}
-use Rattle.canonical.proofs.rootings.same.Statement.{statement}
-use Rattle.canonical.proofs.rootings.same.Tie as tie
+use Rattle.rootings.proofs.same.Statement.{statement}
+use Rattle.rootings.proofs.same.Tie as tie
 
 abbrev Inv-loop : tie.InvT-loop
 Inv-loop a b i₀ i = (i ≤ length a) × (same a b ≡ same (drop i a) (drop i b))

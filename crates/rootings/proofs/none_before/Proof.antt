@@ -10,10 +10,10 @@ use Rattle.lists.specs.Ranges.{Edge}
 use Rattle.words.specs.Order.{Before}
 use Rattle.labelling.specs.Labelling.{wordOf}
 use Rattle.labelling.proofs.Rootings.{accepts-rerooted}
-use Rattle.canonical.specs.Among.{NoneBefore}
-use Rattle.canonical.proofs.Tried.{Tried, none-more, none-fails}
-use Rattle.canonical.proofs.rootings.none_before.Statement.{statement}
-use Rattle.canonical.proofs.rootings.none_before.Tie as tie
+use Rattle.rootings.specs.Among.{NoneBefore}
+use Rattle.rootings.proofs.Tried.{Tried, none-more, none-fails}
+use Rattle.rootings.proofs.none_before.Statement.{statement}
+use Rattle.rootings.proofs.none_before.Tie as tie
 
 abbrev Inv-loop : tie.InvT-loop
 Inv-loop s0 s1 labels₀ order₀ next₀ prev₀ root own cand₀ n x₀ labels order next prev cand x = Tried s0 n labels order next prev cand₀ cand x × ((y : ℕ) → Edge x y → ¬ Before (wordOf s0 s1 y) own)

@@ -1,7 +1,9 @@
 // A word among the words of a diagram's rootings. These ask for an accepted diagram and for arrays fit for a labelling, which they leave
 // so: whoever knows its diagram to be good calls them without a check, and clears no array.
-use crate::least::second_is_lesser;
+pub mod least;
+
 use labelled::tracing::trace;
+use least::second_is_lesser;
 ghost use mathlib.Core.Path.{_≡_};
 ghost use mathlib.Core.Logic.{_↔_};
 ghost use mathlib.Core.Bool.{true};
@@ -11,10 +13,10 @@ ghost use Rattle.words.specs.Order.{precedes, same};
 ghost use Rattle.diagrams.specs.Check.{Accepts};
 ghost use Rattle.labelling.specs.Labelling.{wordOf};
 ghost use Rattle.labelled.specs.Scratch.{Ready};
-ghost use Rattle.canonical.specs.Among.{NoneBefore, SomeRooting, rootingsWith};
+ghost use Rattle.rootings.specs.Among.{NoneBefore, SomeRooting, rootingsWith};
 
 // Whether two words are the same.
-pub(crate) fn same(a: &[u16], b: &[u16]) -> bool
+pub fn same(a: &[u16], b: &[u16]) -> bool
     ensures { λ r. ⌜ r ≡ same (now (a .entry)) (now (b .entry)) ⌝ }
 {
     if a.len() != b.len() {
@@ -88,7 +90,7 @@ pub fn none_before(
 }
 
 // Whether some rooting has the word own.
-pub(crate) fn some_rooting(
+pub fn some_rooting(
     s0: &[u16],
     s1: &[u16],
     labels: &mut [u16; 1025],
@@ -117,7 +119,7 @@ pub(crate) fn some_rooting(
 }
 
 // How many rootings have the word own.
-pub(crate) fn rootings_with(
+pub fn rootings_with(
     s0: &[u16],
     s1: &[u16],
     labels: &mut [u16; 1025],

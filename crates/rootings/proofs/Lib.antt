@@ -1,0 +1,2 @@
+pub mod LesserPart
+pub mod Tried
