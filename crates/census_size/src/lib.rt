@@ -38,7 +38,7 @@ fn two_digits(first: u8, second: u8, end: u8) -> u64
 }
 
 // The size that the input names, of one digit or two; 0 where it names none of these. A size of more digits is above 50 in any case.
-pub fn named_size(input: &[u8]) -> u64
+fn named_size(input: &[u8]) -> u64
     ensures { λ r. ⌜ Named (now (input .entry)) r ⌝ }
 {
     if input.len() == 2 {
