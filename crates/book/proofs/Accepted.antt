@@ -1,13 +1,13 @@
 -- What an accepted call tells of the book, and that the book it leaves is sound again.
 use mathlib.Core.Path.{_≡_, refl, sym, _∙_}
 use mathlib.Core.Logic.{_≢_, _⊎_, inl, inr}
-use mathlib.Core.Bool.{Bool, true, false}
+use mathlib.Core.Bool.{Bool, true, false, cond}
 use Prim.Native.Nat.{ℕ, zero, suc, _+_, _^_, _≤_, _<_}
 use native.Mathlib.Omega.{arith}
 use lib.Dec.{eqb, leb, ltb}
 use borrow.Author.Tests.{ltb-false, leb-false}
-use Rattle.lists.specs.Lists.{pick, at}
-use Rattle.lists.specs.Ranges.{Edge}
+use Rattle.lists.specs.Lists.{at}
+use Rattle.lists.specs.Ranges.{OneTo}
 use Rattle.lists.proofs.Tests.{both-true, eqb-true, eqb-false, eqb-ne, eqb-eq, leb-true, ltb-true, same?, lt?}
 use Rattle.book.specs.declared.types.Book.{Book}
 use Rattle.book.specs.Shares.{first, last, next, ticket, expiry, finished, standing, holder, lapsed}
@@ -23,16 +23,16 @@ zero-unless false k rest h e = absurd (omega arith)
 -- ---- the share where a ticket stands
 
 pub record Stands (b : Book) (t j : ℕ) : Type 0 where
-  pub share-in : Edge (b .shares) j
+  pub share-in : OneTo (b .shares) j
   pub some : t ≢ 0
   pub is : ticket b j ≡ t
 
-stands-below : (b : Book) (t m : ℕ) → standing b t m ≢ 0 → Edge m (standing b t m) × (ticket b (standing b t m) ≡ t)
+stands-below : (b : Book) (t m : ℕ) → standing b t m ≢ 0 → OneTo m (standing b t m) × (ticket b (standing b t m) ≡ t)
 stands-below b t zero n = absurd (n refl)
 stands-below b t (suc m) n = go (same? (ticket b (suc m)) t) (stands-below b t m)
   where
-    go : (ticket b (suc m) ≡ t) ⊎ (ticket b (suc m) ≢ t) → (standing b t m ≢ 0 → Edge m (standing b t m) × (ticket b (standing b t m) ≡ t))
-        → Edge (suc m) (standing b t (suc m)) × (ticket b (standing b t (suc m)) ≡ t)
+    go : (ticket b (suc m) ≡ t) ⊎ (ticket b (suc m) ≢ t) → (standing b t m ≢ 0 → OneTo m (standing b t m) × (ticket b (standing b t m) ≡ t))
+        → OneTo (suc m) (standing b t (suc m)) × (ticket b (standing b t (suc m)) ≡ t)
     go (inl e) r = rw (eqb-eq _ _ e) (omega arith, e)
     go (inr e) r = rw (eqb-ne _ _ e) (let q = r (rw (eqb-ne _ _ e) at n) in (omega arith, q .1))
 
@@ -40,7 +40,7 @@ pub holder-stands : (b : Book) (t : ℕ) → holder b t ≢ 0 → Stands b t (ho
 unfolding holder
 holder-stands b t n = go (same? t 0)
   where
-    go : (t ≡ 0) ⊎ (t ≢ 0) → Stands b t (pick (eqb t 0) 0 (standing b t (b .shares)))
+    go : (t ≡ 0) ⊎ (t ≢ 0) → Stands b t (cond (eqb t 0) 0 (standing b t (b .shares)))
     go (inl e) = absurd (n (rw (eqb-eq _ _ e)))
     go (inr e) =
         let q = stands-below b t (b .shares) (rw (eqb-ne _ _ e) at n) in
@@ -86,8 +86,8 @@ ticket-unfinished b t j S T = go (lt? (last (b .size) (b .shares) j) (next b j))
     go (inr l) = l
 
 -- two shares with one ticket are one share
-pub ticket-apart : (b : Book) (t j : ℕ) → SoundBook b → Stands b t j → (i : ℕ) → Edge (b .shares) i → i ≢ j → ticket b i ≢ t
-ticket-apart b t j S T i e n q = go (lt? i j)
+pub ticket-distinct : (b : Book) (t j : ℕ) → SoundBook b → Stands b t j → (i : ℕ) → OneTo (b .shares) i → i ≢ j → ticket b i ≢ t
+ticket-distinct b t j S T i e n q = go (lt? i j)
   where
     go : (i < j) ⊎ (j ≤ i) → ⊥
     go (inl l) = S .share j (T .share-in) .once i (e .0) l (λ z. T .some (sym (T .is) ∙ z)) (q ∙ sym (T .is))
@@ -131,7 +131,7 @@ module _ (b : Book) (tick t : ℕ) (G : TicketGood b tick t) where
     from = l;
     to = omega arith;
     free = λ z. absurd (omega arith);
-    new = λ z i e n. rw (G .stands .is) (ticket-apart b t j S (G .stands) i e n);
+    new = λ z i e n. rw (G .stands .is) (ticket-distinct b t j S (G .stands) i e n);
     issued = s .issued;
     without = s .without;
     soon = let x = s .soon in let y = G .later in omega arith;
@@ -143,8 +143,8 @@ pub record ClaimGood (b : Book) (tick j len : ℕ) : Type 0 where
   pub is-sound : SoundBook b
   pub later : b .latest ≤ tick
   pub tick-small : tick < 2 ^ 48
-  pub share-in : Edge (b .shares) j
-  pub len-in : Edge 65535 len
+  pub share-in : OneTo (b .shares) j
+  pub len-in : OneTo 65535 len
   pub unfinished : next b j ≤ last (b .size) (b .shares) j
   pub open-to-claim : (ticket b j ≡ 0) ⊎ (expiry b j ≤ tick)
   pub tickets-left : b .issued < 65535
@@ -157,7 +157,7 @@ claim-good b tick j len e =
     let u = zero-unless (among (b .shares) j) 53 _ (omega arith) (r .1) in
     let v = zero-unless (among 65535 len) 54 _ (omega arith) (u .1) in
     let w = zero-unless (not (ltb (last (b .size) (b .shares) j) (next b j))) 55 _ (omega arith) (v .1) in
-    let x = zero-unless (not (pick (not (eqb (at (b .ticket) j) 0)) (not (leb (at (b .expiry) j) tick)) false)) 56 _ (omega arith) (w .1) in
+    let x = zero-unless (not (cond (not (eqb (at (b .ticket) j) 0)) (not (leb (at (b .expiry) j) tick)) false)) 56 _ (omega arith) (w .1) in
     let y = zero-unless (ltb (b .issued) 65535) 57 0 (omega arith) (x .1) in
     let f = tick-facts b tick (r .0) in
     record {
@@ -171,7 +171,7 @@ claim-good b tick j len e =
       tickets-left = ltb-true _ _ (y .0);
     }
   where
-    by-tests : (a c : Bool) → (a ≡ true → ticket b j ≡ 0) → (c ≡ true → expiry b j ≤ tick) → pick (not a) (not c) false ≡ false → (ticket b j ≡ 0) ⊎ (expiry b j ≤ tick)
+    by-tests : (a c : Bool) → (a ≡ true → ticket b j ≡ 0) → (c ≡ true → expiry b j ≤ tick) → cond (not a) (not c) false ≡ false → (ticket b j ≡ 0) ⊎ (expiry b j ≤ tick)
     by-tests true c f g h = inl (f refl)
     by-tests false true f g h = inr (g refl)
     by-tests false false f g h = absurd (let z : _≡_ {A = ℕ} 0 1 = cc in omega arith)

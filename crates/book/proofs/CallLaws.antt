@@ -1,30 +1,30 @@
 -- What each call does to the ledger, and what an accepted take and an accepted commit tell.
 use mathlib.Core.Path.{_≡_, refl, sym, ap, _∙_}
 use mathlib.Core.Logic.{_≢_, _⊎_, inl, inr, ⊎-elim}
-use mathlib.Core.Bool.{Bool, true, false}
+use mathlib.Core.Bool.{Bool, true, false, cond}
 use mathlib.Core.List.{List, [], _∷_, _++_, append-nil}
 use Prim.Native.Nat.{ℕ, zero, suc, _+_, _≤_, _<_}
 use native.Mathlib.Omega.{arith}
 use lib.Dec.{eqb, leb, ltb}
 use lib.ListN.{length}
-use Rattle.lists.specs.Lists.{pick, at}
-use Rattle.lists.specs.Ranges.{Edge}
+use Rattle.lists.specs.Lists.{at}
+use Rattle.lists.specs.Ranges.{OneTo}
 use Rattle.lists.proofs.Tests.{eqb-eq, eqb-ne, eqb-true, same?, lt?, lt-true, lt-false}
-use Rattle.counting.specs.Position.{wordAt}
+use Rattle.listing.specs.Position.{wordAt}
 use Rattle.book.specs.declared.types.Book.{Book}
 use Rattle.book.specs.declared.types.Taking.{Taking}
 use Rattle.book.specs.declared.types.Taking.the-variants as taking
 use Rattle.book.specs.declared.types.Committing.{Committing}
 use Rattle.book.specs.declared.types.Committing.the-variants as committing
 use Rattle.book.specs.Shares.{first, last, next, ticket, expiry, finished, holder}
-use Rattle.book.specs.Calls.{unless, entered, ticked, claim-number, claim-book, due, room, take-number, take-answer, take-book, commit-number, commit-answer, commit-book, moved, release-number, release-book, ticket-number}
+use Rattle.book.specs.Calls.{unless, entered, ticked, claim-number, claim-book, due, room, take-number, take-answer, take-book, commit-number, commit-answer, commit-book, movedOn, release-number, release-book, ticket-number}
 use Rattle.book.proofs.SoundBook.{SoundBook, Long, Fitting, entered-sound, entered-long, entered-next, other-next, ticked-sound}
 use Rattle.book.proofs.Accepted.{zero-unless, TicketGood, ticket-good, ticket-unfinished, freed, kept-on, ClaimGood, claim-good, claim-fits}
 use Rattle.book.proofs.Ledger.{Ledger, ledger-same, ledger-more}
 
 module _ (n k : ℕ) (b : Book) (C : List ℕ) (L : Ledger n k b C) where
   -- a share is one of 32
-  in-32 : (j : ℕ) → Edge (b .shares) j → Edge 32 j
+  in-32 : (j : ℕ) → OneTo (b .shares) j → OneTo 32 j
   in-32 j e = let z = L .is-sound .shares-in in omega arith
 
   -- new entries at share j that leave its next position
@@ -45,7 +45,7 @@ module _ (n k : ℕ) (b : Book) (C : List ℕ) (L : Ledger n k b C) where
   ledger-claim tick j len = go (same? (claim-number b tick j len) 0)
     where
       go : (claim-number b tick j len ≡ 0) ⊎ (claim-number b tick j len ≢ 0)
-          → Ledger n k (pick (eqb (claim-number b tick j len) 0) (entered b tick (suc (b .issued)) j (next b j) (suc (b .issued)) (tick + len)) b) C
+          → Ledger n k (cond (eqb (claim-number b tick j len) 0) (entered b tick (suc (b .issued)) j (next b j) (suc (b .issued)) (tick + len)) b) C
       go (inl e) = rw (eqb-eq _ _ e) (ledger-entered tick (suc (b .issued)) j (suc (b .issued)) (tick + len) (claim-fits b tick j len (claim-good b tick j len e)))
       go (inr e) = rw (eqb-ne _ _ e) L
 
@@ -56,7 +56,7 @@ module _ (n k : ℕ) (b : Book) (C : List ℕ) (L : Ledger n k b C) where
       accepted : TicketGood b tick t → Ledger n k (ticked b tick) C
       accepted G = unfold ticked in (ledger-same n k b (ticked b tick) C L refl refl (ticked-sound b tick (G .later) (G .tick-small) (L .is-sound)) record { next-long = L .long .next-long; ticket-long = L .long .ticket-long; expiry-long = L .long .expiry-long } (λ j e. refl))
 
-      go : (take-number b tick t l0 l1 lw ≡ 0) ⊎ (take-number b tick t l0 l1 lw ≢ 0) → Ledger n k (pick (eqb (take-number b tick t l0 l1 lw) 0) (ticked b tick) b) C
+      go : (take-number b tick t l0 l1 lw ≡ 0) ⊎ (take-number b tick t l0 l1 lw ≢ 0) → Ledger n k (cond (eqb (take-number b tick t l0 l1 lw) 0) (ticked b tick) b) C
       go (inl e) = rw (eqb-eq _ _ e) (accepted (ticket-good b tick t (unless (room (b .size) l0 l1 lw) 9 0) (unfold take-number in e) .0))
       go (inr e) = rw (eqb-ne _ _ e) L
 
@@ -64,7 +64,7 @@ module _ (n k : ℕ) (b : Book) (C : List ℕ) (L : Ledger n k b C) where
   unfolding release-book due
   ledger-release tick t = go (same? (release-number b tick t) 0)
     where
-      go : (release-number b tick t ≡ 0) ⊎ (release-number b tick t ≢ 0) → Ledger n k (pick (eqb (release-number b tick t) 0) (entered b tick (b .issued) (holder b t) (next b (holder b t)) 0 0) b) C
+      go : (release-number b tick t ≡ 0) ⊎ (release-number b tick t ≢ 0) → Ledger n k (cond (eqb (release-number b tick t) 0) (entered b tick (b .issued) (holder b t) (next b (holder b t)) 0 0) b) C
       go (inl e) =
           let G = ticket-good b tick t 0 (unfold release-number in e) .0 in
           let s = L .is-sound .share (holder b t) (G .stands .share-in) in
@@ -97,8 +97,8 @@ module _ (n k : ℕ) (b : Book) (C : List ℕ) (L : Ledger n k b C) where
       (entered-next b tick (b .issued) j x p e (L .long) i)
       (λ h a q. other-next b tick (b .issued) j x p e (L .long) i h q)
 
-  ledger-moved : (tick t : ℕ) → TicketGood b tick t → Ledger n k (moved b tick (holder b t)) (C ++ (next b (holder b t) ∷ []))
-  unfolding moved finished
+  ledger-moved : (tick t : ℕ) → TicketGood b tick t → Ledger n k (movedOn b tick (holder b t)) (C ++ (next b (holder b t) ∷ []))
+  unfolding movedOn finished
   ledger-moved tick t G = go (lt? (last (on .size) (on .shares) j) (next on j))
     where
       j : ℕ
@@ -120,16 +120,16 @@ module _ (n k : ℕ) (b : Book) (C : List ℕ) (L : Ledger n k b C) where
       is = entered-next b tick (b .issued) j x (at (b .ticket) j) (at (b .expiry) j) (L .long) (in-32 j (G .stands .share-in))
 
       go : (last (on .size) (on .shares) j < next on j) ⊎ (next on j ≤ last (on .size) (on .shares) j)
-          → Ledger n k (pick (ltb (last (on .size) (on .shares) j) (next on j)) (entered b tick (b .issued) j x 0 0) on) (C ++ (next b (holder b t) ∷ []))
+          → Ledger n k (cond (ltb (last (on .size) (on .shares) j) (next on j)) (entered b tick (b .issued) j x 0 0) on) (C ++ (next b (holder b t) ∷ []))
       go (inl l) = rw (lt-true _ _ l) (ledger-on tick t 0 0 G (freed b tick t G x (let y = f in omega arith) (let y = u in omega arith)))
       go (inr l) = rw (lt-false _ _ l) (ledger-on tick t (at (b .ticket) j) (at (b .expiry) j) G (kept-on b tick t G x (let y = f in omega arith) (unfold entered in (rw is at l))))
 
-  pub ledger-commit : (tick t p : ℕ) → Ledger n k (commit-book b tick t p) (C ++ pick (eqb (commit-number b tick t p) 0) (p ∷ []) [])
+  pub ledger-commit : (tick t p : ℕ) → Ledger n k (commit-book b tick t p) (C ++ cond (eqb (commit-number b tick t p) 0) (p ∷ []) [])
   unfolding commit-book
   ledger-commit tick t p = go (same? (commit-number b tick t p) 0)
     where
       go : (commit-number b tick t p ≡ 0) ⊎ (commit-number b tick t p ≢ 0)
-          → Ledger n k (pick (eqb (commit-number b tick t p) 0) (moved b tick (holder b t)) b) (C ++ pick (eqb (commit-number b tick t p) 0) (p ∷ []) [])
+          → Ledger n k (cond (eqb (commit-number b tick t p) 0) (movedOn b tick (holder b t)) b) (C ++ cond (eqb (commit-number b tick t p) 0) (p ∷ []) [])
       go (inl e) = let G = commit-good tick t p e in rw (eqb-eq _ _ e, G .names) (ledger-moved tick t (G .good))
       go (inr e) = rw (eqb-ne _ _ e, append-nil) L
 

@@ -3,11 +3,11 @@ use mathlib.Core.Path.{_≡_, refl}
 use mathlib.Core.Bool.{Bool, true, false}
 use Prim.Native.Nat.{ℕ}
 use native.Mathlib.Omega.{arith}
-use Rattle.lists.specs.Ranges.{Edge, every}
+use Rattle.lists.specs.Ranges.{OneTo, every}
 use Rattle.lists.proofs.Ranges.{every-true}
 use Rattle.book.specs.Sound.{both}
 
-pub every-false : (n : ℕ) (t : ℕ → Bool) (x : ℕ) → Edge n x → t x ≡ false → every n t ≡ false
+pub every-false : (n : ℕ) (t : ℕ → Bool) (x : ℕ) → OneTo n x → t x ≡ false → every n t ≡ false
 every-false n t x i e = go (every n t) refl
   where
     go : (b : Bool) → every n t ≡ b → every n t ≡ false

@@ -2,21 +2,21 @@
 -- release leave it; a commit adds the share's next position to it.
 use mathlib.Core.Path.{_≡_, refl, sym, ap, _∙_}
 use mathlib.Core.Logic.{_≢_, _⊎_, inl, inr}
-use mathlib.Core.Bool.{true}
+use mathlib.Core.Bool.{true, cond}
 use mathlib.Core.List.{List, [], _∷_, _++_}
 use Prim.Native.Nat.{ℕ, zero, suc, pred, _+_, _-_, _≤_, _<_}
 use native.Mathlib.Omega.{arith}
 use lib.Dec.{leb, ltb}
 use lib.ListN.{length, length-replicate}
-use Rattle.lists.specs.Lists.{pick, Has, Apart}
-use Rattle.lists.specs.Ranges.{Edge}
+use Rattle.lists.specs.Lists.{Has, Distinct}
+use Rattle.lists.specs.Ranges.{OneTo}
 use Rattle.lists.proofs.Tests.{le-true, le-false, lt-true, ltb-true, same?, lt?}
-use Rattle.lists.proofs.Lists.{length-listed, at-listed, at-zeros, length-1, has-snoc, snoc-has, apart-snoc}
+use Rattle.lists.proofs.Lists.{length-listed, at-listed, at-zeros, length-1, has-snoc, snoc-has, distinct-snoc}
 use Rattle.lists.proofs.Ranges.{every-true, true-every}
 use Rattle.book.specs.declared.types.Book.{Book}
 use Rattle.book.specs.Shares.{first, last, next, finished, done, sum, committed, complete}
 use Rattle.book.specs.Calls.{opened}
-use Rattle.book.specs.Holding.{Holds}
+use Rattle.book.specs.Holding.{ShareHolds}
 use Rattle.book.proofs.Partition.{last-le, share-once}
 use Rattle.book.proofs.SoundBook.{SoundBook, Long}
 
@@ -26,17 +26,17 @@ pub record Ledger (n k : ℕ) (b : Book) (C : List ℕ) : Type 0 where
   pub shared : b .shares ≡ k
   pub is-sound : SoundBook b
   pub long : Long b
-  pub from-share : (p : ℕ) → Has p C → (j : ℕ) × Edge k j × (first n k j ≤ p) × (p < next b j)
-  pub to-list : (j p : ℕ) → Edge k j → first n k j ≤ p → p < next b j → Has p C
-  pub once : Apart C
+  pub from-share : (p : ℕ) → Has p C → (j : ℕ) × OneTo k j × (first n k j ≤ p) × (p < next b j)
+  pub to-list : (j p : ℕ) → OneTo k j → first n k j ≤ p → p < next b j → Has p C
+  pub once : Distinct C
   pub total : length C ≡ committed b
 
 -- what a share has passed, it holds
-pub passed-held : {n k : ℕ} {b : Book} {C : List ℕ} → Ledger n k b C → (j p : ℕ) → Edge k j → first n k j ≤ p → p < next b j → Holds n k j p
+pub passed-held : {n k : ℕ} {b : Book} {C : List ℕ} → Ledger n k b C → (j p : ℕ) → OneTo k j → first n k j ≤ p → p < next b j → ShareHolds n k j p
 passed-held {n} {k} {b} L j p e l u = record { share = e; from = l; to = let z = rw (L .sized, L .shared) at (L .is-sound .share j (rw (L .shared) e) .to) in omega arith }
 
 -- the next position of an unfinished share is held by it alone, so that none has committed it
-pub next-uncommitted : {n k : ℕ} {b : Book} {C : List ℕ} → Ledger n k b C → (i : ℕ) → Holds n k i (next b i) → ¬ Has (next b i) C
+pub next-uncommitted : {n k : ℕ} {b : Book} {C : List ℕ} → Ledger n k b C → (i : ℕ) → ShareHolds n k i (next b i) → ¬ Has (next b i) C
 next-uncommitted {n} {k} {b} L i H h =
     let q = L .from-share (next b i) h in
     let e = share-once n k (let z = H .share in omega arith) (q .0) i (next b i) (passed-held L (q .0) (next b i) (q .1) (q .2) (q .3)) H in
@@ -46,16 +46,16 @@ next-uncommitted {n} {k} {b} L i H h =
 
 -- ---- sums
 
-pub sum-same : (m : ℕ) (s t : ℕ → ℕ) → ((j : ℕ) → Edge m j → s j ≡ t j) → sum m s ≡ sum m t
+pub sum-same : (m : ℕ) (s t : ℕ → ℕ) → ((j : ℕ) → OneTo m j → s j ≡ t j) → sum m s ≡ sum m t
 sum-same zero s t e = refl
 sum-same (suc m) s t e = rw (e (suc m) (omega arith), sum-same m s t (λ j i. e j (omega arith)))
 
 -- one term more by one
-pub sum-one : (m : ℕ) (s t : ℕ → ℕ) (i : ℕ) → Edge m i → t i ≡ suc (s i) → ((j : ℕ) → Edge m j → j ≢ i → t j ≡ s j) → sum m t ≡ suc (sum m s)
+pub sum-one : (m : ℕ) (s t : ℕ → ℕ) (i : ℕ) → OneTo m i → t i ≡ suc (s i) → ((j : ℕ) → OneTo m j → j ≢ i → t j ≡ s j) → sum m t ≡ suc (sum m s)
 sum-one zero s t i e q r = absurd (omega arith)
 sum-one (suc m) s t i e q r = go (same? i (suc m)) (sum-one m s t i)
   where
-    go : (i ≡ suc m) ⊎ (i ≢ suc m) → (Edge m i → t i ≡ suc (s i) → ((j : ℕ) → Edge m j → j ≢ i → t j ≡ s j) → sum m t ≡ suc (sum m s)) → sum (suc m) t ≡ suc (sum (suc m) s)
+    go : (i ≡ suc m) ⊎ (i ≢ suc m) → (OneTo m i → t i ≡ suc (s i) → ((j : ℕ) → OneTo m j → j ≢ i → t j ≡ s j) → sum m t ≡ suc (sum m s)) → sum (suc m) t ≡ suc (sum (suc m) s)
     go (inl z) k =
         let x = sum-same m t s (λ j u. r j (omega arith) (λ w. omega arith)) in
         let y : t (suc m) ≡ suc (s (suc m)) = rw (sym z) q in
@@ -65,26 +65,26 @@ sum-one (suc m) s t i e q r = go (same? i (suc m)) (sum-one m s t i)
         let y = r (suc m) (omega arith) (λ w. z (sym w)) in
         omega arith
 
-sum-zero : (m : ℕ) (s : ℕ → ℕ) → ((j : ℕ) → Edge m j → s j ≡ 0) → sum m s ≡ 0
+sum-zero : (m : ℕ) (s : ℕ → ℕ) → ((j : ℕ) → OneTo m j → s j ≡ 0) → sum m s ≡ 0
 sum-zero zero s e = refl
 sum-zero (suc m) s e = let x = sum-zero m s (λ j i. e j (omega arith)) in let y = e (suc m) (omega arith) in omega arith
 
 -- ---- opening
 
-module _ (n k : ℕ) (N : Edge 50 n) (K : Edge 32 k) where
+module _ (n k : ℕ) (N : OneTo 50 n) (K : OneTo 32 k) where
   some : 0 < k
   some = K .0
 
-  opened-next : (j : ℕ) → Edge k j → next (opened n k) j ≡ first n k j
+  opened-next : (j : ℕ) → OneTo k j → next (opened n k) j ≡ first n k j
   unfolding opened
-  opened-next j e = at-listed (λ i. pick (leb i k) (first n k i) 0) 32 j (omega arith) ∙ rw (le-true j k (e .1))
+  opened-next j e = at-listed (λ i. cond (leb i k) (first n k i) 0) 32 j (omega arith) ∙ rw (le-true j k (e .1))
 
-  opened-unused : (j : ℕ) → Edge 32 j → k < j → next (opened n k) j ≡ 0
+  opened-unused : (j : ℕ) → OneTo 32 j → k < j → next (opened n k) j ≡ 0
   unfolding opened
-  opened-unused j e l = at-listed (λ i. pick (leb i k) (first n k i) 0) 32 j e ∙ rw (le-false j k l)
+  opened-unused j e l = at-listed (λ i. cond (leb i k) (first n k i) 0) 32 j e ∙ rw (le-false j k l)
 
   -- a share begins at most one past the end of the one before
-  first-fits : (j : ℕ) → Edge k j → first n k j ≤ suc (last n k j)
+  first-fits : (j : ℕ) → OneTo k j → first n k j ≤ suc (last n k j)
   unfolding first
   first-fits j e = let x = last-le n k some (pred j) j (omega arith) in omega arith
 
@@ -107,7 +107,7 @@ module _ (n k : ℕ) (N : Edge 50 n) (K : Edge 32 k) where
     unused = λ j e l. record { no-next = opened-unused j e l; no-ticket = at-zeros 32 j; no-expiry = at-zeros 32 j };
   }
 
-  opened-none : (j : ℕ) → Edge k j → done (opened n k) j ≡ 0
+  opened-none : (j : ℕ) → OneTo k j → done (opened n k) j ≡ 0
   unfolding done opened
   opened-none j e = rw (opened-next j e) (omega arith)
 
@@ -117,7 +117,7 @@ module _ (n k : ℕ) (N : Edge 50 n) (K : Edge 32 k) where
     sized = refl;
     shared = refl;
     is-sound = opened-sound;
-    long = record { next-long = length-listed (λ i. pick (leb i k) (first n k i) 0) 32; ticket-long = length-replicate {A = ℕ} 32 0; expiry-long = length-replicate {A = ℕ} 32 0 };
+    long = record { next-long = length-listed (λ i. cond (leb i k) (first n k i) 0) 32; ticket-long = length-replicate {A = ℕ} 32 0; expiry-long = length-replicate {A = ℕ} 32 0 };
     from-share = λ p h. absurd h;
     to-list = λ j p e l u. (let x = opened-next j e in absurd (omega arith));
     once = tt;
@@ -127,8 +127,8 @@ module _ (n k : ℕ) (N : Edge 50 n) (K : Edge 32 k) where
 -- ---- a call that moves no share on
 
 module _ (n k : ℕ) (b b′ : Book) (C : List ℕ) (L : Ledger n k b C) (sized : b′ .size ≡ b .size) (shared : b′ .shares ≡ b .shares) (S : SoundBook b′) (M : Long b′)
-    (same : (j : ℕ) → Edge (b .shares) j → next b′ j ≡ next b j) where
-  done-same : (j : ℕ) → Edge (b .shares) j → done b′ j ≡ done b j
+    (same : (j : ℕ) → OneTo (b .shares) j → next b′ j ≡ next b j) where
+  done-same : (j : ℕ) → OneTo (b .shares) j → done b′ j ≡ done b j
   unfolding done
   done-same j e = rw (sized, shared, same j e)
 
@@ -151,18 +151,18 @@ module _ (n k : ℕ) (b b′ : Book) (C : List ℕ) (L : Ledger n k b C) (sized 
 -- ---- a call that moves share i on by one
 
 module _ (n k : ℕ) (b b′ : Book) (C : List ℕ) (L : Ledger n k b C) (sized : b′ .size ≡ b .size) (shared : b′ .shares ≡ b .shares) (S : SoundBook b′) (M : Long b′)
-    (i : ℕ) (I : Edge (b .shares) i) (unfinished : next b i ≤ last (b .size) (b .shares) i) (more : next b′ i ≡ suc (next b i)) (same : (j : ℕ) → Edge (b .shares) j → j ≢ i → next b′ j ≡ next b j) where
+    (i : ℕ) (I : OneTo (b .shares) i) (unfinished : next b i ≤ last (b .size) (b .shares) i) (more : next b′ i ≡ suc (next b i)) (same : (j : ℕ) → OneTo (b .shares) j → j ≢ i → next b′ j ≡ next b j) where
   i-first : first n k i ≤ next b i
   i-first = rw (L .sized, L .shared) at (L .is-sound .share i I .from)
 
-  i-in : Edge k i
+  i-in : OneTo k i
   i-in = rw (L .shared) at I
 
   done-more : done b′ i ≡ suc (done b i)
   unfolding done
   done-more = rw (sized, shared, more) (let x = L .is-sound .share i I .from in omega arith)
 
-  done-other : (j : ℕ) → Edge (b .shares) j → j ≢ i → done b′ j ≡ done b j
+  done-other : (j : ℕ) → OneTo (b .shares) j → j ≢ i → done b′ j ≡ done b j
   unfolding done
   done-other j e n = rw (sized, shared, same j e n)
 
@@ -181,22 +181,22 @@ module _ (n k : ℕ) (b b′ : Book) (C : List ℕ) (L : Ledger n k b C) (sized 
     long = M;
     from-share = λ p h. old p (has-snoc p C (next b i) h);
     to-list = λ j p e l u. snoc-has p C (next b i) (new j p e l u (same? j i));
-    once = apart-snoc C (next b i) (L .once) not-yet;
+    once = distinct-snoc C (next b i) (L .once) not-yet;
     total = length-1 C (next b i) ∙ ap suc (L .total) ∙ sym committed-more;
   }
     where
-      up : (j : ℕ) → Edge k j → next b j ≤ next b′ j
+      up : (j : ℕ) → OneTo k j → next b j ≤ next b′ j
       up j e = go (same? j i)
         where
           go : (j ≡ i) ⊎ (j ≢ i) → next b j ≤ next b′ j
           go (inl z) = rw z (let y = more in omega arith)
           go (inr z) = let y = same j (rw (L .shared) e) z in omega arith
 
-      old : (p : ℕ) → Has p C ⊎ (p ≡ next b i) → (j : ℕ) × Edge k j × (first n k j ≤ p) × (p < next b′ j)
+      old : (p : ℕ) → Has p C ⊎ (p ≡ next b i) → (j : ℕ) × OneTo k j × (first n k j ≤ p) × (p < next b′ j)
       old p (inl h) = let q = L .from-share p h in let u = up (q .0) (q .1) in let v = q .3 in (q .0, q .1, q .2, omega arith)
       old p (inr e) = let y = more in let z = i-first in (i, i-in, omega arith, omega arith)
 
-      new : (j p : ℕ) → Edge k j → first n k j ≤ p → p < next b′ j → (j ≡ i) ⊎ (j ≢ i) → Has p C ⊎ (p ≡ next b i)
+      new : (j p : ℕ) → OneTo k j → first n k j ≤ p → p < next b′ j → (j ≡ i) ⊎ (j ≢ i) → Has p C ⊎ (p ≡ next b i)
       new j p e l u (inl z) = go (same? p (next b i))
         where
           go : (p ≡ next b i) ⊎ (p ≢ next b i) → Has p C ⊎ (p ≡ next b i)
@@ -208,13 +208,13 @@ module _ (n k : ℕ) (b b′ : Book) (C : List ℕ) (L : Ledger n k b C) (sized 
 
 module _ (n k : ℕ) (b : Book) (C : List ℕ) (L : Ledger n k b C) (some : 0 < k) where
   -- a share is finished exactly if each position that it holds has been committed
-  pub finished-all : (j : ℕ) → Edge k j → finished b j ≡ true → (p : ℕ) → Holds n k j p → Has p C
+  pub finished-all : (j : ℕ) → OneTo k j → finished b j ≡ true → (p : ℕ) → ShareHolds n k j p → Has p C
   unfolding finished
   finished-all j e f p H =
       let l = rw (L .sized, L .shared) at (ltb-true (last (b .size) (b .shares) j) (next b j) f) in
       L .to-list j p e (H .from) (let x = H .to in omega arith)
 
-  pub all-finished : (j : ℕ) → Edge k j → ((p : ℕ) → Holds n k j p → Has p C) → finished b j ≡ true
+  pub all-finished : (j : ℕ) → OneTo k j → ((p : ℕ) → ShareHolds n k j p → Has p C) → finished b j ≡ true
   unfolding finished
   all-finished j e h = go (lt? (last (b .size) (b .shares) j) (next b j))
     where
@@ -224,13 +224,13 @@ module _ (n k : ℕ) (b : Book) (C : List ℕ) (L : Ledger n k b C) (some : 0 < 
       go : (last (b .size) (b .shares) j < next b j) ⊎ (next b j ≤ last (b .size) (b .shares) j) → ltb (last (b .size) (b .shares) j) (next b j) ≡ true
       go (inl l) = lt-true _ _ l
       go (inr l) =
-          let H : Holds n k j (next b j) = record { share = e; from = s; to = rw (L .sized, L .shared) at l } in
+          let H : ShareHolds n k j (next b j) = record { share = e; from = s; to = rw (L .sized, L .shared) at l } in
           absurd (next-uncommitted L j H (h (next b j) H))
 
-  pub complete-shares : complete b ≡ true → (j : ℕ) → Edge k j → finished b j ≡ true
+  pub complete-shares : complete b ≡ true → (j : ℕ) → OneTo k j → finished b j ≡ true
   unfolding complete
   complete-shares c j e = every-true (b .shares) (finished b) c j (rw (L .shared) e)
 
-  pub shares-complete : ((j : ℕ) → Edge k j → finished b j ≡ true) → complete b ≡ true
+  pub shares-complete : ((j : ℕ) → OneTo k j → finished b j ≡ true) → complete b ≡ true
   unfolding complete
   shares-complete h = true-every (b .shares) (finished b) (λ j e. h j (rw (L .shared) at e))

@@ -1,14 +1,14 @@
 -- The test `sound` as facts, and that the entries an operation writes keep a book sound.
 use mathlib.Core.Path.{_≡_, refl, sym, ap, _∙_, subst}
 use mathlib.Core.Logic.{_≢_, _⊎_, inl, inr, ⊎-elim}
-use mathlib.Core.Bool.{Bool, true, false, true≢false}
+use mathlib.Core.Bool.{Bool, true, false, true≢false, cond}
 use mathlib.Core.List.{List}
 use Prim.Native.Nat.{ℕ, zero, suc, _+_, _-_, _^_, _≤_, _<_}
 use native.Mathlib.Omega.{arith}
 use lib.Dec.{eqb, leb, ltb}
 use lib.ListN.{length}
-use Rattle.lists.specs.Lists.{pick, at, put}
-use Rattle.lists.specs.Ranges.{Edge, every}
+use Rattle.lists.specs.Lists.{at, put}
+use Rattle.lists.specs.Ranges.{OneTo, every}
 use Rattle.lists.proofs.Tests.{both-true, eqb-eq, eqb-true, eqb-ne, eqb-false, eqb-same, le-true, leb-true, le-false, lt-true, ltb-true, lt-false, same?, lt?}
 use Rattle.lists.proofs.Lists.{at-put-same, at-put-other, length-put}
 use Rattle.lists.proofs.Ranges.{every-true, true-every}
@@ -33,19 +33,19 @@ pub record Unused (b : Book) (j : ℕ) : Type 0 where
   pub no-expiry : expiry b j ≡ 0
 
 pub record SoundBook (b : Book) : Type 0 where
-  pub size-in : Edge 50 (b .size)
-  pub shares-in : Edge 32 (b .shares)
+  pub size-in : OneTo 50 (b .size)
+  pub shares-in : OneTo 32 (b .shares)
   pub issued-in : b .issued ≤ 65535
   pub latest-in : b .latest < 2 ^ 48
-  pub share : (j : ℕ) → Edge (b .shares) j → ShareSound b j
-  pub unused : (j : ℕ) → Edge 32 j → b .shares < j → Unused b j
+  pub share : (j : ℕ) → OneTo (b .shares) j → ShareSound b j
+  pub unused : (j : ℕ) → OneTo 32 j → b .shares < j → Unused b j
 
 -- ---- from the test to the facts
 
-pub among-true : (n x : ℕ) → among n x ≡ true → Edge n x
+pub among-true : (n x : ℕ) → among n x ≡ true → OneTo n x
 among-true n x e = let q = both-true (leb 1 x) (leb x n) e in (leb-true 1 x (q .0), leb-true x n (q .1))
 
-pub true-among : (n x : ℕ) → Edge n x → among n x ≡ true
+pub true-among : (n x : ℕ) → OneTo n x → among n x ≡ true
 true-among n x e = rw (le-true 1 x (e .0), le-true x n (e .1))
 
 pub both-of : (a b : Bool) → a ≡ true → b ≡ true → both a b ≡ true
@@ -55,8 +55,8 @@ pub either-true : (a b : Bool) → either a b ≡ true → (a ≡ true) ⊎ (b �
 either-true true b e = inl refl
 either-true false b e = inr e
 
--- a test under `pick t false true`
-pub not-true : (t : Bool) → pick t false true ≡ true → t ≡ false
+-- a test under `cond t false true`
+pub not-true : (t : Bool) → cond t false true ≡ true → t ≡ false
 not-true true e = absurd (true≢false (sym e))
 not-true false e = refl
 
@@ -80,7 +80,7 @@ module _ (b : Book) where
       p : (leb (first (b .size) (b .shares) j) (next b j) ≡ true) × (leb (next b j) (suc (last (b .size) (b .shares) j)) ≡ true)
       p = both-true _ _ (q1 .0)
 
-      x : (either (eqb (expiry b j) 0) (pick (eqb (ticket b j) 0) false true) ≡ true) × (leb (expiry b j) (b .latest + 65535) ≡ true)
+      x : (either (eqb (expiry b j) 0) (cond (eqb (ticket b j) 0) false true) ≡ true) × (leb (expiry b j) (b .latest + 65535) ≡ true)
       x = both-true _ _ (q3 .1)
 
       free : last (b .size) (b .shares) j < next b j → ticket b j ≡ 0
@@ -89,14 +89,14 @@ module _ (b : Book) where
       once : (i : ℕ) → 1 ≤ i → i < j → ticket b j ≢ 0 → ticket b i ≢ ticket b j
       once i a l n = go (either-true _ _ (q .0))
         where
-          go : (eqb (ticket b j) 0 ≡ true) ⊎ (every (j - 1) (λ i. pick (eqb (ticket b i) (ticket b j)) false true) ≡ true) → ticket b i ≢ ticket b j
+          go : (eqb (ticket b j) 0 ≡ true) ⊎ (every (j - 1) (λ i. cond (eqb (ticket b i) (ticket b j)) false true) ≡ true) → ticket b i ≢ ticket b j
           go (inl z) = absurd (n (eqb-true _ _ z))
-          go (inr z) = eqb-false _ _ (not-true _ (every-true (j - 1) (λ i. pick (eqb (ticket b i) (ticket b j)) false true) z i (omega arith)))
+          go (inr z) = eqb-false _ _ (not-true _ (every-true (j - 1) (λ i. cond (eqb (ticket b i) (ticket b j)) false true) z i (omega arith)))
 
       without : ticket b j ≡ 0 → expiry b j ≡ 0
       without t = go (either-true _ _ (x .0))
         where
-          go : (eqb (expiry b j) 0 ≡ true) ⊎ (pick (eqb (ticket b j) 0) false true ≡ true) → expiry b j ≡ 0
+          go : (eqb (expiry b j) 0 ≡ true) ⊎ (cond (eqb (ticket b j) 0) false true ≡ true) → expiry b j ≡ 0
           go (inl z) = eqb-true _ _ z
           go (inr z) = absurd (eqb-false _ _ (not-true _ z) t)
 
@@ -104,24 +104,24 @@ module _ (b : Book) where
   unfolding share-sound next-in finished-free ticket-once ticket-issued expiry-in finished
   facts-share j S = both-of _ _ (both-of _ _ (le-true _ _ (S .from)) (le-true _ _ (S .to))) (both-of _ _ free (both-of _ _ once (both-of _ _ (le-true _ _ (S .issued)) (both-of _ _ without (le-true _ _ (S .soon))))))
     where
-      free : pick (ltb (last (b .size) (b .shares) j) (next b j)) (eqb (ticket b j) 0) true ≡ true
+      free : cond (ltb (last (b .size) (b .shares) j) (next b j)) (eqb (ticket b j) 0) true ≡ true
       free = go (lt? (last (b .size) (b .shares) j) (next b j))
         where
-          go : (last (b .size) (b .shares) j < next b j) ⊎ (next b j ≤ last (b .size) (b .shares) j) → pick (ltb (last (b .size) (b .shares) j) (next b j)) (eqb (ticket b j) 0) true ≡ true
+          go : (last (b .size) (b .shares) j < next b j) ⊎ (next b j ≤ last (b .size) (b .shares) j) → cond (ltb (last (b .size) (b .shares) j) (next b j)) (eqb (ticket b j) 0) true ≡ true
           go (inl l) = rw (lt-true _ _ l) (eqb-eq _ _ (S .free l))
           go (inr l) = rw (lt-false _ _ l)
 
-      once : either (eqb (ticket b j) 0) (every (j - 1) (λ i. pick (eqb (ticket b i) (ticket b j)) false true)) ≡ true
+      once : either (eqb (ticket b j) 0) (every (j - 1) (λ i. cond (eqb (ticket b i) (ticket b j)) false true)) ≡ true
       once = go (same? (ticket b j) 0)
         where
-          go : (ticket b j ≡ 0) ⊎ (ticket b j ≢ 0) → either (eqb (ticket b j) 0) (every (j - 1) (λ i. pick (eqb (ticket b i) (ticket b j)) false true)) ≡ true
+          go : (ticket b j ≡ 0) ⊎ (ticket b j ≢ 0) → either (eqb (ticket b j) 0) (every (j - 1) (λ i. cond (eqb (ticket b i) (ticket b j)) false true)) ≡ true
           go (inl z) = rw (eqb-eq _ _ z)
           go (inr z) = rw (eqb-ne _ _ z) (true-every (j - 1) _ (λ i e. rw (eqb-ne _ _ (S .once i (e .0) (omega arith) z))))
 
-      without : either (eqb (expiry b j) 0) (pick (eqb (ticket b j) 0) false true) ≡ true
+      without : either (eqb (expiry b j) 0) (cond (eqb (ticket b j) 0) false true) ≡ true
       without = go (same? (ticket b j) 0)
         where
-          go : (ticket b j ≡ 0) ⊎ (ticket b j ≢ 0) → either (eqb (expiry b j) 0) (pick (eqb (ticket b j) 0) false true) ≡ true
+          go : (ticket b j ≡ 0) ⊎ (ticket b j ≢ 0) → either (eqb (expiry b j) 0) (cond (eqb (ticket b j) 0) false true) ≡ true
           go (inl z) = rw (eqb-eq _ _ (S .without z))
           go (inr z) = rw (eqb-ne _ _ z) (any (eqb (expiry b j) 0))
             where
@@ -153,19 +153,19 @@ module _ (b : Book) where
       }
     where
       test : ℕ → Bool
-      test j = pick (leb j (b .shares)) (share-sound b j) (entry-unused b j)
+      test j = cond (leb j (b .shares)) (share-sound b j) (entry-unused b j)
 
   pub facts-sound : SoundBook b → sound b ≡ true
   unfolding sound in-range counters-in entries-sound
   facts-sound S = both-of _ _ (both-of _ _ (true-among 50 _ (S .size-in)) (true-among 32 _ (S .shares-in))) (both-of _ _ (both-of _ _ (le-true _ _ (S .issued-in)) (lt-true _ _ (S .latest-in))) (true-every 32 _ at-entry))
     where
-      at-entry : (j : ℕ) → Edge 32 j → pick (leb j (b .shares)) (share-sound b j) (entry-unused b j) ≡ true
+      at-entry : (j : ℕ) → OneTo 32 j → cond (leb j (b .shares)) (share-sound b j) (entry-unused b j) ≡ true
       at-entry j e = go (lt? (b .shares) j)
         where
           empty : Unused b j → entry-unused b j ≡ true
           empty u = unfold entry-unused in (both-of _ _ (eqb-eq _ _ (u .no-next)) (both-of _ _ (eqb-eq _ _ (u .no-ticket)) (eqb-eq _ _ (u .no-expiry))))
 
-          go : (b .shares < j) ⊎ (j ≤ b .shares) → pick (leb j (b .shares)) (share-sound b j) (entry-unused b j) ≡ true
+          go : (b .shares < j) ⊎ (j ≤ b .shares) → cond (leb j (b .shares)) (share-sound b j) (entry-unused b j) ≡ true
           go (inl l) = rw (le-false _ _ l) (empty (S .unused j e l))
           go (inr l) = rw (le-true _ _ l) (facts-share j (S .share j (e .0, l)))
 
@@ -179,7 +179,7 @@ pub record Long (b : Book) : Type 0 where
 
 -- the entries p, t, e at share j, with the tick and the tickets issued, keep the book sound
 pub record Fitting (b : Book) (tick issues j p t e : ℕ) : Type 0 where
-  pub share-in : Edge (b .shares) j
+  pub share-in : OneTo (b .shares) j
   pub later : b .latest ≤ tick
   pub tick-in : tick < 2 ^ 48
   pub more : b .issued ≤ issues
@@ -187,12 +187,12 @@ pub record Fitting (b : Book) (tick issues j p t e : ℕ) : Type 0 where
   pub from : first (b .size) (b .shares) j ≤ p
   pub to : p ≤ suc (last (b .size) (b .shares) j)
   pub free : last (b .size) (b .shares) j < p → t ≡ 0
-  pub new : t ≢ 0 → (i : ℕ) → Edge (b .shares) i → i ≢ j → ticket b i ≢ t
+  pub new : t ≢ 0 → (i : ℕ) → OneTo (b .shares) i → i ≢ j → ticket b i ≢ t
   pub issued : t ≤ issues
   pub without : t ≡ 0 → e ≡ 0
   pub soon : e ≤ tick + 65535
 
-module _ (b : Book) (tick issues j p t e : ℕ) (L : Long b) (k : Edge 32 j) where
+module _ (b : Book) (tick issues j p t e : ℕ) (L : Long b) (k : OneTo 32 j) where
   abbrev b′ : Book
   b′ = entered b tick issues j p t e
 
@@ -238,7 +238,7 @@ module _ (b : Book) (tick issues j p t e : ℕ) (L : Long b) (k : Edge 32 j) whe
       soon = rw entered-expiry (F .soon);
     }
 
-    at-other : (i : ℕ) → Edge (b .shares) i → i ≢ j → ShareSound b′ i
+    at-other : (i : ℕ) → OneTo (b .shares) i → i ≢ j → ShareSound b′ i
     unfolding entered
     at-other i a n = record {
       from = rw (other-next i n) (s .from);
@@ -275,11 +275,11 @@ module _ (b : Book) (tick issues j p t e : ℕ) (L : Long b) (k : Edge 32 j) whe
       unused = λ i a l. empty i a l;
     }
       where
-        each : (i : ℕ) → Edge (b .shares) i → (i ≡ j) ⊎ (i ≢ j) → ShareSound b′ i
+        each : (i : ℕ) → OneTo (b .shares) i → (i ≡ j) ⊎ (i ≢ j) → ShareSound b′ i
         each i a (inl q) = rw q at-j
         each i a (inr q) = at-other i a q
 
-        empty : (i : ℕ) → Edge 32 i → b .shares < i → Unused b′ i
+        empty : (i : ℕ) → OneTo 32 i → b .shares < i → Unused b′ i
         empty i a l =
             let y = F .share-in in
             let n : i ≢ j = λ w. omega arith in

@@ -5,9 +5,8 @@
 --   claiming-ticket                            the ticket given
 --   taking-share, taking-position, taking-length   the share, the position and the word's length
 --   reporting-committed, reporting-complete    how many positions are committed; 1 complete, 0 not
-use mathlib.Core.Bool.{Bool, true, false}
+use mathlib.Core.Bool.{Bool, true, false, cond}
 use Prim.Native.Nat.{ℕ}
-use Rattle.lists.specs.Lists.{pick}
 use Rattle.book.specs.declared.types.Opening.{Opening}
 use Rattle.book.specs.declared.types.Opening.the-variants as opening
 use Rattle.book.specs.declared.types.Claiming.{Claiming}
@@ -68,5 +67,5 @@ reporting-committed (reporting.Refused k) old = old
 
 -- 1 complete, 0 not complete
 abbrev pub reporting-complete : Reporting → ℕ → ℕ
-reporting-complete (reporting.Progress n complete) old = pick complete 1 0
+reporting-complete (reporting.Progress n complete) old = cond complete 1 0
 reporting-complete (reporting.Refused k) old = old

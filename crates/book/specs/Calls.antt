@@ -14,18 +14,18 @@
 --   due b t                    the next position of the share where the ticket t stands
 --   room n l0 l1 lw            lists of these lengths hold a diagram of n edges and its word (refusal 9)
 --   take-list .. x a           what a take leaves in the lent list a, of which it writes x over the beginning where it is accepted
---   moved b tick j             the book b with share j moved on by one; past the last position its ticket ends
+--   movedOn b tick j             the book b with share j moved on by one; past the last position its ticket ends
 use mathlib.Core.Path.{_≡_}
-use mathlib.Core.Bool.{Bool, true, false}
+use mathlib.Core.Bool.{Bool, true, false, cond}
 use mathlib.Core.List.{List, []}
 use Prim.Native.Nat.{ℕ, zero, suc, _+_, _^_}
 use lib.Dec.{eqb, leb, ltb}
 use lib.ListN.{length, replicate}
-use Rattle.lists.specs.Lists.{pick, at, put, listed}
-use Rattle.words.specs.Outputs.{over}
+use Rattle.lists.specs.Lists.{at, put, tabulate}
+use Rattle.words.specs.Outputs.{overwrite}
 use Rattle.words.specs.Word.{Pair}
-use Rattle.counting.specs.Position.{wordAt}
-use Rattle.counting.specs.Diagrams.{diagramAt}
+use Rattle.listing.specs.Position.{wordAt}
+use Rattle.listing.specs.Diagrams.{diagramAt}
 use Rattle.book.specs.declared.types.Book.{Book}
 use Rattle.book.specs.declared.types.Opening.{Opening}
 use Rattle.book.specs.declared.types.Opening.the-variants as opening
@@ -44,10 +44,10 @@ use Rattle.book.specs.Sound.{both, either, among, sound}
 
 -- refusal k unless the test holds; the tests are asked in the order in which they stand
 abbrev pub unless : Bool → ℕ → ℕ → ℕ
-unless t k rest = pick t rest k
+unless t k rest = cond t rest k
 
 abbrev pub not : Bool → Bool
-not b = pick b false true
+not b = cond b false true
 
 -- ---- open: 31, 51
 
@@ -61,16 +61,16 @@ opened n k = record {
   shares = k;
   latest = 0;
   issued = 0;
-  next = listed (λ j. pick (leb j k) (first n k j) 0) 32;
+  next = tabulate (λ j. cond (leb j k) (first n k j) 0) 32;
   ticket = replicate 32 0;
   expiry = replicate 32 0;
 }
 
 unfoldable pub open-answer : ℕ → ℕ → Opening
-open-answer n k = pick (eqb (open-number n k) 0) opening.Opened (opening.Refused (open-number n k))
+open-answer n k = cond (eqb (open-number n k) 0) opening.Opened (opening.Refused (open-number n k))
 
 unfoldable pub open-book : Book → ℕ → ℕ → Book
-open-book b n k = pick (eqb (open-number n k) 0) (opened n k) b
+open-book b n k = cond (eqb (open-number n k) 0) (opened n k) b
 
 -- ---- the book with other entries at share j, and the tick kept as the latest
 
@@ -110,10 +110,10 @@ claim-number b tick j len =
     (unless (ltb (b .issued) 65535) 57 0))))))
 
 unfoldable pub claim-answer : Book → ℕ → ℕ → ℕ → Claiming
-claim-answer b tick j len = pick (eqb (claim-number b tick j len) 0) (claiming.Ticket (suc (b .issued))) (claiming.Refused (claim-number b tick j len))
+claim-answer b tick j len = cond (eqb (claim-number b tick j len) 0) (claiming.Ticket (suc (b .issued))) (claiming.Refused (claim-number b tick j len))
 
 unfoldable pub claim-book : Book → ℕ → ℕ → ℕ → Book
-claim-book b tick j len = pick (eqb (claim-number b tick j len) 0) (entered b tick (suc (b .issued)) j (next b j) (suc (b .issued)) (tick + len)) b
+claim-book b tick j len = cond (eqb (claim-number b tick j len) 0) (entered b tick (suc (b .issued)) j (next b j) (suc (b .issued)) (tick + len)) b
 
 -- ---- what take, commit and release ask first: 50, 52, 58 the ticket stands at no share, 59 it has lapsed
 
@@ -139,16 +139,16 @@ take-number b tick t l0 l1 lw = ticket-number b tick t (unless (room (b .size) l
 
 unfoldable pub take-answer : Book → ℕ → ℕ → ℕ → ℕ → ℕ → Taking
 take-answer b tick t l0 l1 lw =
-    pick (eqb (take-number b tick t l0 l1 lw) 0)
+    cond (eqb (take-number b tick t l0 l1 lw) 0)
     (taking.Given (holder b t) (due b t) (length (wordAt (b .size) (due b t))))
     (taking.Refused (take-number b tick t l0 l1 lw))
 
 unfoldable pub take-book : Book → ℕ → ℕ → ℕ → ℕ → ℕ → Book
-take-book b tick t l0 l1 lw = pick (eqb (take-number b tick t l0 l1 lw) 0) (ticked b tick) b
+take-book b tick t l0 l1 lw = cond (eqb (take-number b tick t l0 l1 lw) 0) (ticked b tick) b
 
 -- the three lists after a take, from the lists before it
 unfoldable pub take-list : Book → ℕ → ℕ → ℕ → ℕ → ℕ → List ℕ → List ℕ → List ℕ
-take-list b tick t l0 l1 lw x a = pick (eqb (take-number b tick t l0 l1 lw) 0) (over x a) a
+take-list b tick t l0 l1 lw x a = cond (eqb (take-number b tick t l0 l1 lw) 0) (overwrite x a) a
 
 -- ---- commit: then 60, not that share's next position
 
@@ -156,17 +156,17 @@ unfoldable pub commit-number : Book → ℕ → ℕ → ℕ → ℕ
 commit-number b tick t p = ticket-number b tick t (unless (eqb p (due b t)) 60 0)
 
 unfoldable pub commit-answer : Book → ℕ → ℕ → ℕ → Committing
-commit-answer b tick t p = pick (eqb (commit-number b tick t p) 0) committing.Committed (committing.Refused (commit-number b tick t p))
+commit-answer b tick t p = cond (eqb (commit-number b tick t p) 0) committing.Committed (committing.Refused (commit-number b tick t p))
 
 -- the share moves on by one; past its last position its ticket ends
-unfoldable pub moved : Book → ℕ → ℕ → Book
-moved b tick j =
-    pick (finished (entered b tick (b .issued) j (suc (next b j)) (at (b .ticket) j) (at (b .expiry) j)) j)
+unfoldable pub movedOn : Book → ℕ → ℕ → Book
+movedOn b tick j =
+    cond (finished (entered b tick (b .issued) j (suc (next b j)) (at (b .ticket) j) (at (b .expiry) j)) j)
     (entered b tick (b .issued) j (suc (next b j)) 0 0)
     (entered b tick (b .issued) j (suc (next b j)) (at (b .ticket) j) (at (b .expiry) j))
 
 unfoldable pub commit-book : Book → ℕ → ℕ → ℕ → Book
-commit-book b tick t p = pick (eqb (commit-number b tick t p) 0) (moved b tick (holder b t)) b
+commit-book b tick t p = cond (eqb (commit-number b tick t p) 0) (movedOn b tick (holder b t)) b
 
 -- ---- release
 
@@ -174,12 +174,12 @@ unfoldable pub release-number : Book → ℕ → ℕ → ℕ
 release-number b tick t = ticket-number b tick t 0
 
 unfoldable pub release-answer : Book → ℕ → ℕ → Releasing
-release-answer b tick t = pick (eqb (release-number b tick t) 0) releasing.Released (releasing.Refused (release-number b tick t))
+release-answer b tick t = cond (eqb (release-number b tick t) 0) releasing.Released (releasing.Refused (release-number b tick t))
 
 unfoldable pub release-book : Book → ℕ → ℕ → Book
-release-book b tick t = pick (eqb (release-number b tick t) 0) (entered b tick (b .issued) (holder b t) (due b t) 0 0) b
+release-book b tick t = cond (eqb (release-number b tick t) 0) (entered b tick (b .issued) (holder b t) (due b t) 0 0) b
 
 -- ---- report: 50; it alters nothing
 
 unfoldable pub report-answer : Book → Reporting
-report-answer b = pick (sound b) (reporting.Progress (committed b) (complete b)) (reporting.Refused 50)
+report-answer b = cond (sound b) (reporting.Progress (committed b) (complete b)) (reporting.Refused 50)

@@ -4,7 +4,7 @@
 --   changed b c    the book b with the change c carried out
 --   Placed c       the share whose entries c alters is one of 1..32
 use Prim.Native.Nat.{ℕ}
-use Rattle.lists.specs.Ranges.{Edge}
+use Rattle.lists.specs.Ranges.{OneTo}
 use Rattle.book.specs.declared.types.Book.{Book}
 use Rattle.book.specs.declared.types.Heads.{Heads}
 use Rattle.book.specs.declared.types.Change.{Change}
@@ -22,4 +22,4 @@ changed b (Entries tick issues j p t e) = entered b tick issues j p t e
 abbrev pub Placed : Change → Type 0
 Placed Nothing = Unit {0}
 Placed (Latest tick) = Unit {0}
-Placed (Entries tick issues j p t e) = Edge 32 j
+Placed (Entries tick issues j p t e) = OneTo 32 j

@@ -8,12 +8,12 @@
 --   committed b, complete b      how many in all; every share is finished
 --   holder b t                   the share where the ticket t stands; 0 where it stands at none (0 never does)
 --   lapsed b j tick              at that tick, share j's ticket has lapsed
-use mathlib.Core.Bool.{Bool, true, false}
+use mathlib.Core.Bool.{Bool, true, false, cond}
 use Prim.Native.Nat.{ℕ, zero, suc, _+_, _-_, _*_, _/_, pred}
 use lib.Dec.{eqb, leb, ltb}
-use Rattle.lists.specs.Lists.{pick, at}
+use Rattle.lists.specs.Lists.{at}
 use Rattle.lists.specs.Ranges.{every}
-use Rattle.counting.specs.Listing.{count}
+use Rattle.listing.specs.Listing.{count}
 use Rattle.book.specs.declared.types.Book.{Book}
 
 unfoldable pub last : ℕ → ℕ → ℕ → ℕ
@@ -51,10 +51,10 @@ complete b = every (b .shares) (finished b)
 -- the first of the shares 1..m, counted down from m, where the ticket stands
 abbrev pub standing : Book → ℕ → ℕ → ℕ
 standing b t zero = 0
-standing b t (suc m) = pick (eqb (ticket b (suc m)) t) (suc m) (standing b t m)
+standing b t (suc m) = cond (eqb (ticket b (suc m)) t) (suc m) (standing b t m)
 
 unfoldable pub holder : Book → ℕ → ℕ
-holder b t = pick (eqb t 0) 0 (standing b t (b .shares))
+holder b t = cond (eqb t 0) 0 (standing b t (b .shares))
 
 unfoldable pub lapsed : Book → ℕ → ℕ → Bool
 lapsed b j tick = leb (expiry b j) tick

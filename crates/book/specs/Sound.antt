@@ -10,20 +10,20 @@
 --   share-sound b j       the last five of share j;  entry-unused b j, entry j of the three lists is 0
 --   entries-sound b       the shares 1..k are sound, and the entries after them unused
 --   sound b               all of it: the book is not refused 50
-use mathlib.Core.Bool.{Bool, true, false}
+use mathlib.Core.Bool.{Bool, true, false, cond}
 use Prim.Native.Nat.{ℕ, zero, suc, _+_, _-_, _^_}
 use lib.Dec.{eqb, leb, ltb}
-use Rattle.lists.specs.Lists.{pick, at}
+use Rattle.lists.specs.Lists.{at}
 use Rattle.lists.specs.Ranges.{every}
 use Rattle.book.specs.declared.types.Book.{Book}
 use Rattle.book.specs.Shares.{first, last, next, ticket, expiry, finished}
 
 -- both tests hold; one or the other does
 abbrev pub both : Bool → Bool → Bool
-both a b = pick a b false
+both a b = cond a b false
 
 abbrev pub either : Bool → Bool → Bool
-either a b = pick a true b
+either a b = cond a true b
 
 -- x is one of 1..n
 abbrev pub among : ℕ → ℕ → Bool
@@ -39,11 +39,11 @@ next-in b j = both (leb (first (b .size) (b .shares) j) (next b j)) (leb (next b
 
 -- a finished share has no ticket
 unfoldable pub finished-free : Book → ℕ → Bool
-finished-free b j = pick (finished b j) (eqb (ticket b j) 0) true
+finished-free b j = cond (finished b j) (eqb (ticket b j) 0) true
 
 -- a ticket other than 0 stands at no share before j
 unfoldable pub ticket-once : Book → ℕ → Bool
-ticket-once b j = either (eqb (ticket b j) 0) (every (j - 1) (λ i. pick (eqb (ticket b i) (ticket b j)) false true))
+ticket-once b j = either (eqb (ticket b j) 0) (every (j - 1) (λ i. cond (eqb (ticket b i) (ticket b j)) false true))
 
 -- a ticket has been issued
 unfoldable pub ticket-issued : Book → ℕ → Bool
@@ -51,7 +51,7 @@ ticket-issued b j = leb (ticket b j) (b .issued)
 
 -- without a ticket the expiry is 0; it lies at most 65,535 beyond the latest tick
 unfoldable pub expiry-in : Book → ℕ → Bool
-expiry-in b j = both (either (eqb (expiry b j) 0) (pick (eqb (ticket b j) 0) false true)) (leb (expiry b j) (b .latest + 65535))
+expiry-in b j = both (either (eqb (expiry b j) 0) (cond (eqb (ticket b j) 0) false true)) (leb (expiry b j) (b .latest + 65535))
 
 -- all of these at share j
 unfoldable pub share-sound : Book → ℕ → Bool
@@ -63,7 +63,7 @@ entry-unused b j = both (eqb (next b j) 0) (both (eqb (ticket b j) 0) (eqb (expi
 
 -- shares 1..k are sound, entries k + 1..32 unused
 unfoldable pub entries-sound : Book → Bool
-entries-sound b = every 32 (λ j. pick (leb j (b .shares)) (share-sound b j) (entry-unused b j))
+entries-sound b = every 32 (λ j. cond (leb j (b .shares)) (share-sound b j) (entry-unused b j))
 
 -- at most 65,535 tickets issued; the latest tick is below 2^48
 unfoldable pub counters-in : Book → Bool

@@ -8,10 +8,10 @@ use lib.ListN.{length, getD}
 use Rattle.lists.proofs.Tests.{lt?}
 use Rattle.words.specs.Letters.{decimal}
 use Rattle.words.proofs.Decimal.{decimal-small, decimal-more}
-use Rattle.positions.specs.declared.Total.{Total}
-use Rattle.positions.specs.declared.Total.the-variants as total
-use Rattle.positions.specs.Promises.{Counted}
-use Rattle.census_size.specs.Size.{Names, Named, AskedFor}
+use Rattle.listing_ranking.specs.declared.Total.{Total}
+use Rattle.listing_ranking.specs.declared.Total.the-variants as total
+use Rattle.listing_ranking.specs.Promises.{CountPromise}
+use Rattle.census_size.specs.Size.{Names, NamedSizePromise, RequestPromise}
 
 -- ---- decimals of one digit and of two, with the newline
 
@@ -32,7 +32,7 @@ names-bytes input n h (l, e) = go (lt? n 10)
 
 -- ---- an input of two bytes
 
-pub one-named : (a b n : ℕ) → 1 ≤ n → n < 10 → a ≡ 48 + n → b ≡ 10 → Named (a ∷ b ∷ []) n
+pub one-named : (a b n : ℕ) → 1 ≤ n → n < 10 → a ≡ 48 + n → b ≡ 10 → NamedSizePromise (a ∷ b ∷ []) n
 one-named a b n l h p q = inl ((l, rw (line-one n h, p, q)), omega arith)
 
 -- what a size of one digit asks of the bytes
@@ -43,16 +43,16 @@ one-bytes a b n h m = go (names-bytes (a ∷ b ∷ []) n h m)
     go (inl (l, s, e)) = (l, s, cc, cc)
     go (inr (s, e)) = absurd (omega (arith, ap length e))
 
-pub one-none : (a b : ℕ) → ((n : ℕ) → 1 ≤ n → n < 10 → a ≡ 48 + n → b ≡ 10 → ⊥) → Named (a ∷ b ∷ []) 0
+pub one-none : (a b : ℕ) → ((n : ℕ) → 1 ≤ n → n < 10 → a ≡ 48 + n → b ≡ 10 → ⊥) → NamedSizePromise (a ∷ b ∷ []) 0
 one-none a b f = inr (refl, λ n h m. let (l, s, p, q) = one-bytes a b n h m in f n l s p q)
 
-pub named-small : (input : List ℕ) (r : ℕ) → Named input r → r ≤ 99
+pub named-small : (input : List ℕ) (r : ℕ) → NamedSizePromise input r → r ≤ 99
 named-small input r (inl (m, h)) = h
 named-small input r (inr (z, none)) = omega arith
 
 -- ---- an input of three bytes
 
-pub two-named : (a b c t : ℕ) → Named (a ∷ c ∷ []) t → 1 ≤ t → 48 ≤ b → b < 58 → (n : ℕ) → n + 48 ≡ t * 10 + b → Named (a ∷ b ∷ c ∷ []) n
+pub two-named : (a b c t : ℕ) → NamedSizePromise (a ∷ c ∷ []) t → 1 ≤ t → 48 ≤ b → b < 58 → (n : ℕ) → n + 48 ≡ t * 10 + b → NamedSizePromise (a ∷ b ∷ c ∷ []) n
 two-named a b c t (inr (z, none)) l p q n e = absurd (omega arith)
 two-named a b c t (inl (m, h)) l p q n e = inl ((omega arith, go (one-bytes a c t h m)), omega (arith, one-bytes a c t h m))
   where
@@ -73,23 +73,23 @@ two-bytes a b c n h m = go (names-bytes (a ∷ b ∷ c ∷ []) n h m)
         let z : c ≡ 10 = cc in
         ((omega arith, rw (line-one (n / 10) (omega arith), x, z)), cc)
 
-pub two-none : (a b c : ℕ) → ((n : ℕ) → n ≤ 99 → Names (a ∷ c ∷ []) (n / 10) → b ≡ 48 + n % 10 → ⊥) → Named (a ∷ b ∷ c ∷ []) 0
+pub two-none : (a b c : ℕ) → ((n : ℕ) → n ≤ 99 → Names (a ∷ c ∷ []) (n / 10) → b ≡ 48 + n % 10 → ⊥) → NamedSizePromise (a ∷ b ∷ c ∷ []) 0
 two-none a b c f = inr (refl, λ n h m. let (s, p) = two-bytes a b c n h m in f n h s p)
 
 -- the tens are none: so is the whole
-pub two-without : (a b c t : ℕ) → Named (a ∷ c ∷ []) t → t ≡ 0 → Named (a ∷ b ∷ c ∷ []) 0
+pub two-without : (a b c t : ℕ) → NamedSizePromise (a ∷ c ∷ []) t → t ≡ 0 → NamedSizePromise (a ∷ b ∷ c ∷ []) 0
 two-without a b c t (inl ((l, e), h)) z = absurd (omega arith)
 two-without a b c t (inr (z, none)) e = two-none a b c (λ n h m p. none (n / 10) (omega arith) m)
 
 -- ---- an input of any length
 
-pub two-long : (l : List ℕ) (r : ℕ) → length l ≡ 2 → Named (getD l 0 0 ∷ getD l 1 0 ∷ []) r → Named l r
+pub two-long : (l : List ℕ) (r : ℕ) → length l ≡ 2 → NamedSizePromise (getD l 0 0 ∷ getD l 1 0 ∷ []) r → NamedSizePromise l r
 two-long (a ∷ b ∷ []) r e h = h
 two-long [] r e h = absurd (omega arith)
 two-long (a ∷ []) r e h = absurd (omega arith)
 two-long (a ∷ b ∷ c ∷ l) r e h = absurd (omega arith)
 
-pub three-long : (l : List ℕ) (r : ℕ) → length l ≡ 3 → Named (getD l 0 0 ∷ getD l 1 0 ∷ getD l 2 0 ∷ []) r → Named l r
+pub three-long : (l : List ℕ) (r : ℕ) → length l ≡ 3 → NamedSizePromise (getD l 0 0 ∷ getD l 1 0 ∷ getD l 2 0 ∷ []) r → NamedSizePromise l r
 three-long (a ∷ b ∷ c ∷ []) r e h = h
 three-long [] r e h = absurd (omega arith)
 three-long (a ∷ []) r e h = absurd (omega arith)
@@ -99,7 +99,7 @@ three-long (a ∷ b ∷ c ∷ d ∷ l) r e h = absurd (omega arith)
 pub names-long : (input : List ℕ) (n : ℕ) → n ≤ 99 → Names input n → (length input ≡ 2) ⊎ (length input ≡ 3)
 names-long input n h m = ⊎-elim (λ w. inl (ap length (w .2))) (λ w. inr (ap length (w .1))) (names-bytes input n h m)
 
-pub none-named : (input : List ℕ) → ¬ (length input ≡ 2) → ¬ (length input ≡ 3) → Named input 0
+pub none-named : (input : List ℕ) → ¬ (length input ≡ 2) → ¬ (length input ≡ 3) → NamedSizePromise input 0
 none-named input p q = inr (refl, λ n h m. ⊎-elim p q (names-long input n h m))
 
 -- an input names one size at most
@@ -117,7 +117,7 @@ names-once input m n h k p q = go (names-bytes input m h p) (names-bytes input n
 
 -- ---- what is asked for
 
-pub asked-for : (input : List ℕ) (n : ℕ) (t : Total) → Named input n → Counted n t → AskedFor input n t
+pub asked-for : (input : List ℕ) (n : ℕ) (t : Total) → NamedSizePromise input n → CountPromise n t → RequestPromise input n t
 asked-for input n (total.Number c) (inl (m, h)) (s, e) = (m, s, e)
 asked-for input n (total.Number c) (inr (z, none)) (s, e) = absurd (omega arith)
 asked-for input n (total.Refused k) (inl (m, h)) (e, out) = (e, λ x s p. out (rw (names-once input x n (omega arith) h p m) at s))

@@ -2,26 +2,26 @@
 -- newline, nothing else"; "other input prints `refused 31`").
 --
 --   Names i n            the input i is the size n in decimal, and a newline
---   Named i r            the promise of `named_size`: r is the size that i names, if it has one digit or two; 0 where i names none of these
---   AskedFor i n t       the promise of `asked`: i names the size n of 1..50 and t is how many diagrams it has; or t is the refusal 31, and i
+--   NamedSizePromise i r            the promise of `named_size`: r is the size that i names, if it has one digit or two; 0 where i names none of these
+--   RequestPromise i n t       the promise of `asked`: i names the size n of 1..50 and t is how many diagrams it has; or t is the refusal 31, and i
 --                        names no size of 1..50
 use mathlib.Core.Path.{_≡_}
 use mathlib.Core.Logic.{_⊎_}
 use mathlib.Core.List.{List, [], _∷_, _++_}
 use Prim.Native.Nat.{ℕ, _≤_}
-use Rattle.lists.specs.Ranges.{Edge}
+use Rattle.lists.specs.Ranges.{OneTo}
 use Rattle.words.specs.Letters.{decimal}
-use Rattle.counting.specs.Listing.{count}
-use Rattle.positions.specs.declared.Total.{Total}
-use Rattle.positions.specs.declared.Total.the-variants as total
+use Rattle.listing.specs.Listing.{count}
+use Rattle.listing_ranking.specs.declared.Total.{Total}
+use Rattle.listing_ranking.specs.declared.Total.the-variants as total
 
 -- 10 is the newline; there is no size 0; the decimal of a number of 64 bits or fewer has no leading zero
 abbrev pub Names : List ℕ → ℕ → Type 0
 Names input n = (1 ≤ n) × (input ≡ decimal n ++ (10 ∷ []))
 
-abbrev pub Named : List ℕ → ℕ → Type 0
-Named input r = (Names input r × (r ≤ 99)) ⊎ ((r ≡ 0) × ((n : ℕ) → n ≤ 99 → ¬ Names input n))
+abbrev pub NamedSizePromise : List ℕ → ℕ → Type 0
+NamedSizePromise input r = (Names input r × (r ≤ 99)) ⊎ ((r ≡ 0) × ((n : ℕ) → n ≤ 99 → ¬ Names input n))
 
-abbrev pub AskedFor : List ℕ → ℕ → Total → Type 0
-AskedFor input n (total.Number c) = Names input n × Edge 50 n × (c ≡ count n)
-AskedFor input n (total.Refused k) = (k ≡ 31) × ((m : ℕ) → Edge 50 m → ¬ Names input m)
+abbrev pub RequestPromise : List ℕ → ℕ → Total → Type 0
+RequestPromise input n (total.Number c) = Names input n × OneTo 50 n × (c ≡ count n)
+RequestPromise input n (total.Refused k) = (k ≡ 31) × ((m : ℕ) → OneTo 50 m → ¬ Names input m)

@@ -1,12 +1,12 @@
 // What the input of the census program asks for. Document 01: it "reads a decimal size without leading zeros and a newline, nothing else"; other
 // input, and a size outside 1..50, is refused 31.
-use positions::Total;
+use listing_ranking::Total;
 ghost use mathlib.Core.List.{[], _∷_};
-ghost use Rattle.census_size.specs.Size.{Named, AskedFor};
+ghost use Rattle.census_size.specs.Size.{NamedSizePromise, RequestPromise};
 
 // The size that a byte and the byte that ends it name; 0 where they name none.
 fn one_digit(digit: u8, end: u8) -> u64
-    ensures { λ r. ⌜ Named (digit ∷ end ∷ []) r ⌝ }
+    ensures { λ r. ⌜ NamedSizePromise (digit ∷ end ∷ []) r ⌝ }
 {
     if end != b'\n' {
         return 0;
@@ -22,7 +22,7 @@ fn one_digit(digit: u8, end: u8) -> u64
 
 // The same of two bytes and the byte that ends them. Without the second, they name the tens.
 fn two_digits(first: u8, second: u8, end: u8) -> u64
-    ensures { λ r. ⌜ Named (first ∷ second ∷ end ∷ []) r ⌝ }
+    ensures { λ r. ⌜ NamedSizePromise (first ∷ second ∷ end ∷ []) r ⌝ }
 {
     let tens = one_digit(first, end);
     if tens == 0 {
@@ -39,7 +39,7 @@ fn two_digits(first: u8, second: u8, end: u8) -> u64
 
 // The size that the input names, of one digit or two; 0 where it names none of these. A size of more digits is above 50 in any case.
 fn named_size(input: &[u8]) -> u64
-    ensures { λ r. ⌜ Named (now (input .entry)) r ⌝ }
+    ensures { λ r. ⌜ NamedSizePromise (now (input .entry)) r ⌝ }
 {
     if input.len() == 2 {
         return one_digit(input[0], input[1]);
@@ -58,11 +58,11 @@ pub struct Request {
 
 // The size that the input names and how many diagrams it has, or the refusal 31.
 pub fn asked(input: &[u8]) -> Request
-    ensures { λ r. ⌜ AskedFor (now (input .entry)) (r .size) (r .total) ⌝ }
+    ensures { λ r. ⌜ RequestPromise (now (input .entry)) (r .size) (r .total) ⌝ }
 {
     let size = named_size(input);
     Request {
         size,
-        total: positions::count(size),
+        total: listing_ranking::count(size),
     }
 }

@@ -10,12 +10,12 @@ use libc::STDOUT_FILENO;
 use lines::put_byte;
 use lines::put_number;
 use lines::put_text;
-use listing::Listing;
-use listing::list_marked;
-use positions::Total;
+use run_blocks::Listing;
+use run_blocks::list_marked;
+use listing_ranking::Total;
 use rows::Standing;
 use rows::put_rows;
-use running::Run;
+use run_steps::Run;
 
 // Diagrams in a block. No line is longer than 1,024 bytes (15 digits, at most 51 items of three letters, two lists of 50 entries, five numbers
 // and the marks between), so that a block's lines fit the 65,536 bytes that are written at once.
@@ -115,7 +115,7 @@ pub fn census(input: &[u8]) {
     match total {
         Total::Refused(k) => refuse(k, &mut out),
         Total::Number(t) => {
-            let begun = running::begin(size);
+            let begun = run_steps::begin(size);
             let run = begun.run;
             print_census(run, size, t, &mut out);
         }

@@ -6,7 +6,7 @@ use lines::put_list;
 use lines::put_number;
 use lines::put_signed;
 use lines::put_text;
-use running::Run;
+use run_steps::Run;
 use words::Lettered;
 
 // More than any size has: one more still fits 64 bits.
@@ -140,7 +140,7 @@ pub fn put_rows(
     let mut place: usize = 0;
     let mut i: usize = 0;
     while i < rows {
-        let m = lists::wide(lengths[i]);
+        let m = lists::to_index(lengths[i]);
         let kept = marks[i] == 1;
         i += 1;
         now = line(

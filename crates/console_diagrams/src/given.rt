@@ -1,8 +1,8 @@
 // The commands on a diagram that is given.
-use canonical::Comparison;
-use canonical::KeepMark;
-use canonical::Relabelling;
-use canonical::Symmetry;
+use labelling_operations::Comparison;
+use labelling_operations::KeepMark;
+use labelling_operations::Relabelling;
+use labelling_operations::Symmetry;
 use console_lines::answers::error;
 use console_lines::answers::ok;
 use console_lines::answers::put_diagram;
@@ -23,7 +23,7 @@ use lines::put_number;
 use lines::put_signed;
 use lines::put_text;
 use lines::word;
-use lists::wide;
+use lists::to_index;
 
 pub fn check(line: &[u8], words: Words, out: &mut [u8], at: usize) -> usize {
     let mut s0 = [0u16; MAX_ENTRIES];
@@ -52,9 +52,9 @@ fn put_relabelled(
     out: &mut [u8],
     at: usize,
 ) -> usize {
-    let answer = canonical::relabel(s0, s1, root, t0, t1, word);
+    let answer = labelling_operations::relabel(s0, s1, root, t0, t1, word);
     match answer {
-        Relabelling::Length(m) => put_diagram(out, at, s0.len(), t0, t1, wide(m), word),
+        Relabelling::Length(m) => put_diagram(out, at, s0.len(), t0, t1, to_index(m), word),
         Relabelling::Refused(k) => refused(out, at, k),
     }
 }
@@ -109,9 +109,9 @@ fn compared(
     q: u64,
 ) -> Comparison {
     if rooted {
-        return canonical::compare_rooted(s0, s1, r, t0, t1, q);
+        return labelling_operations::compare_rooted(s0, s1, r, t0, t1, q);
     }
-    canonical::compare_unrooted(s0, s1, r, t0, t1, q)
+    labelling_operations::compare_unrooted(s0, s1, r, t0, t1, q)
 }
 
 pub fn compare(line: &[u8], words: Words, out: &mut [u8], at: usize) -> usize {
@@ -179,7 +179,7 @@ pub fn symmetries(line: &[u8], words: Words, out: &mut [u8], at: usize) -> usize
     }
     let n0 = given.n0;
     let n1 = given.n1;
-    let answer = canonical::symmetries(&s0[0..n0], &s1[0..n1], given.root);
+    let answer = labelling_operations::symmetries(&s0[0..n0], &s1[0..n1], given.root);
     match answer {
         Symmetry::Count(m) => put_number(out, at, m as u64),
         Symmetry::Refused(k) => refused(out, at, k),
@@ -195,7 +195,7 @@ pub fn kept(line: &[u8], words: Words, out: &mut [u8], at: usize) -> usize {
     }
     let n0 = given.n0;
     let n1 = given.n1;
-    let answer = canonical::kept(&s0[0..n0], &s1[0..n1], given.root);
+    let answer = labelling_operations::kept(&s0[0..n0], &s1[0..n1], given.root);
     match answer {
         KeepMark::Yes => put_text(out, at, b"yes"),
         KeepMark::No => put_text(out, at, b"no"),

@@ -12,18 +12,18 @@ use lines::number;
 use lines::put_byte;
 use lines::put_number;
 use lines::word;
-use lists::wide;
-use positions::Entry;
-use positions::Place;
-use positions::Total;
-use walking::Walked;
+use lists::to_index;
+use listing_ranking::Entry;
+use listing_ranking::Place;
+use listing_ranking::Total;
+use listing_plain_walk::Walked;
 
 pub fn count(line: &[u8], words: Words, out: &mut [u8], at: usize) -> usize {
     let size = number(word(line, words, 1));
     if !size.good || words.count != 2 {
         return error(out, at);
     }
-    let answer = positions::count(size.value);
+    let answer = listing_ranking::count(size.value);
     match answer {
         Total::Number(n) => put_number(out, at, n),
         Total::Refused(k) => refused(out, at, k),
@@ -39,9 +39,9 @@ fn put_diagram_at(
     out: &mut [u8],
     at: usize,
 ) -> usize {
-    let answer = positions::diagram_at(n, p, s0, s1, word);
+    let answer = listing_ranking::diagram_at(n, p, s0, s1, word);
     match answer {
-        Entry::Length(m) => put_diagram(out, at, n as usize, s0, s1, wide(m), word),
+        Entry::Length(m) => put_diagram(out, at, n as usize, s0, s1, to_index(m), word),
         Entry::Refused(k) => refused(out, at, k),
     }
 }
@@ -79,7 +79,7 @@ pub fn position(line: &[u8], words: Words, out: &mut [u8], at: usize) -> usize {
     }
     let n0 = given.n0;
     let n1 = given.n1;
-    let answer = positions::position(&s0[0..n0], &s1[0..n1], given.root);
+    let answer = listing_ranking::position(&s0[0..n0], &s1[0..n1], given.root);
     match answer {
         Place::Number(p) => put_number(out, at, p),
         Place::Refused(k) => refused(out, at, k),
@@ -87,7 +87,7 @@ pub fn position(line: &[u8], words: Words, out: &mut [u8], at: usize) -> usize {
 }
 
 fn put_walk(size: u64, list: &mut [u16], out: &mut [u8], at: usize) -> usize {
-    let answer = walking::plain_walk(size, list);
+    let answer = listing_plain_walk::plain_walk(size, list);
     match answer {
         Walked::Numbers(n) => {
             let number = put_number(out, at, n as u64);

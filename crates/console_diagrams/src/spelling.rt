@@ -12,17 +12,17 @@ use lines::put_list;
 use lines::put_number;
 use lines::put_text;
 use lines::word;
-use lists::wide;
-use reading::Reading;
+use lists::to_index;
+use words_reading::Reading;
 use words::Lettered;
 
 // The most letters of a word: an item has at most six.
 const MAX_LETTERS: usize = 6 * MAX_ENTRIES;
 
 fn put_read(word: &[u16], s0: &mut [u16], s1: &mut [u16], out: &mut [u8], at: usize) -> usize {
-    let answer = reading::read_word(word, s0, s1);
+    let answer = words_reading::read_word(word, s0, s1);
     match answer {
-        Reading::Size(n) => put_lists(out, at, wide(n), s0, s1),
+        Reading::Size(n) => put_lists(out, at, to_index(n), s0, s1),
         Reading::Refused(k) => refused(out, at, k),
     }
 }

@@ -15,9 +15,9 @@ use lines::number;
 use lines::put_byte;
 use lines::put_number;
 use lines::word;
-use listing::Listing;
-use lists::wide;
-use running::Run;
+use run_blocks::Listing;
+use lists::to_index;
+use run_steps::Run;
 ghost use Prim.Native.Nat.{_≤_};
 
 // After a block: the run, and the place after the answer.
@@ -56,7 +56,7 @@ fn items(lengths: &[u16], rows: usize, most: usize) -> usize {
     let mut total: usize = 0;
     let mut i: usize = 0;
     while i < rows {
-        total = sum_within(total, wide(lengths[i]), most);
+        total = sum_within(total, to_index(lengths[i]), most);
         i += 1;
     }
     total
@@ -93,7 +93,7 @@ fn list_into(
     out: &mut [u8],
     at: usize,
 ) -> Listed {
-    let listed = listing::list(run, rows, s0, s1, words, lengths);
+    let listed = run_blocks::list(run, rows, s0, s1, words, lengths);
     let next = listed.run;
     let answer = listed.answer;
     match answer {
@@ -182,7 +182,7 @@ fn mark_into(
     out: &mut [u8],
     at: usize,
 ) -> Listed {
-    let listed = listing::list_marked(run, rows, s0, s1, words, lengths, marks);
+    let listed = run_blocks::list_marked(run, rows, s0, s1, words, lengths, marks);
     let next = listed.run;
     let answer = listed.answer;
     match answer {

@@ -44,7 +44,7 @@ pub fn open(line: &[u8], words: Words, state: State, out: &mut [u8], at: usize) 
         return unread(state, out, at);
     }
     let before = state.book;
-    let opened = lending::open(before, size.value, shares.value);
+    let opened = book_by_value::open(before, size.value, shares.value);
     let book = opened.book;
     let answer = opened.answer;
     Done {
@@ -71,7 +71,7 @@ pub fn claim(line: &[u8], words: Words, state: State, out: &mut [u8], at: usize)
         return unread(state, out, at);
     }
     let before = state.book;
-    let claimed = lending::claim(before, tick.value, share.value, length.value);
+    let claimed = book_by_value::claim(before, tick.value, share.value, length.value);
     let book = claimed.book;
     let answer = claimed.answer;
     Done {
@@ -122,7 +122,7 @@ fn put_taken(
     out: &mut [u8],
     at: usize,
 ) -> Taken {
-    let taken = lending::take(before, tick, ticket, s0, s1, word);
+    let taken = book_by_value::take(before, tick, ticket, s0, s1, word);
     let book = taken.book;
     let answer = taken.answer;
     let n = before.size as usize;
@@ -178,7 +178,7 @@ pub fn commit(line: &[u8], words: Words, state: State, out: &mut [u8], at: usize
         return unread(state, out, at);
     }
     let before = state.book;
-    let committed = lending::commit(before, tick.value, ticket.value, position.value);
+    let committed = book_by_value::commit(before, tick.value, ticket.value, position.value);
     let book = committed.book;
     let answer = committed.answer;
     Done {
@@ -201,7 +201,7 @@ pub fn release(line: &[u8], words: Words, state: State, out: &mut [u8], at: usiz
         return unread(state, out, at);
     }
     let before = state.book;
-    let released = lending::release(before, tick.value, ticket.value);
+    let released = book_by_value::release(before, tick.value, ticket.value);
     let book = released.book;
     let answer = released.answer;
     Done {
@@ -214,7 +214,7 @@ pub fn report(words: Words, book: Book, out: &mut [u8], at: usize) -> usize {
     if words.count != 1 {
         return error(out, at);
     }
-    let answer = lending::report(book);
+    let answer = book_by_value::report(book);
     match answer {
         Reporting::Progress {
             committed,

@@ -12,10 +12,10 @@ use lines::Words;
 use lines::number;
 use lines::put_text;
 use lines::word;
-use lists::wide;
-use running::Beginning;
-use running::Run;
-use running::Stepping;
+use lists::to_index;
+use run_steps::Beginning;
+use run_steps::Run;
+use run_steps::Stepping;
 
 pub fn begin(line: &[u8], words: Words, state: State, out: &mut [u8], at: usize) -> Done {
     let size = number(word(line, words, 1));
@@ -25,7 +25,7 @@ pub fn begin(line: &[u8], words: Words, state: State, out: &mut [u8], at: usize)
             at: error(out, at),
         };
     }
-    let begun = running::begin(size.value);
+    let begun = run_steps::begin(size.value);
     let answer = begun.answer;
     match answer {
         Beginning::Begun => {
@@ -56,13 +56,13 @@ fn put_step(
     out: &mut [u8],
     at: usize,
 ) -> Stepped {
-    let stepped = running::step(run, s0, s1, word);
+    let stepped = run_steps::step(run, s0, s1, word);
     let next = stepped.run;
     let answer = stepped.answer;
     match answer {
         Stepping::Length(m) => Stepped {
             run: next,
-            at: put_diagram(out, at, run.size as usize, s0, s1, wide(m), word),
+            at: put_diagram(out, at, run.size as usize, s0, s1, to_index(m), word),
         },
         Stepping::End => Stepped {
             run: next,

@@ -1,6 +1,6 @@
 // What lasts from line to line.
 use book::Book;
-use running::Run;
+use run_steps::Run;
 
 pub struct State {
     // the line at hand was too long, and is passed over up to its newline

@@ -5,7 +5,7 @@ use mathlib.Core.Bool.{Bool, true, false, _&&_, true≢false}
 use Prim.Native.Nat.{ℕ, _+_, _≤_, _<_}
 use native.Mathlib.Omega.{arith}
 use lib.Dec.{leb}
-use Rattle.lists.specs.Ranges.{Edge}
+use Rattle.lists.specs.Ranges.{OneTo}
 use Rattle.lists.proofs.Tests.{same?, leb-true, le-true}
 
 module _ {A : Type 0} where
@@ -38,14 +38,14 @@ module _ (P : ℕ → Type 0) where
       go y i j (inl e) = rw e p
       go y i j (inr d) = s .before y i (omega arith)
 
-  pub passed-all : {n x : ℕ} → Passed P n x → n < x → (y : ℕ) → Edge n y → P y
+  pub passed-all : {n x : ℕ} → Passed P n x → n < x → (y : ℕ) → OneTo n y → P y
   passed-all s l y e = s .before y (e .0) (omega arith)
 
 pub and-true : (a b : Bool) → (a && b) ≡ true → (a ≡ true) × (b ≡ true)
 and-true true b e = (refl, e)
 and-true false b e = absurd (true≢false (sym e))
 
-pub edge-test : (n x : ℕ) → ((leb 1 x && leb x n) ≡ true) ↔ Edge n x
+pub edge-test : (n x : ℕ) → ((leb 1 x && leb x n) ≡ true) ↔ OneTo n x
 edge-test n x = (λ e. let b = and-true (leb 1 x) (leb x n) e in (leb-true 1 x (b .0), leb-true x n (b .1)), λ e. rw (le-true 1 x (e .0), le-true x n (e .1)))
 
 -- a loop over the places below n stands at i, and never stops early: good says whether P held of each place before i

@@ -9,7 +9,7 @@ use lib.ListN.{length, getD, List·getD-eq-default}
 use Rattle.lists.specs.Lists.{at}
 use Rattle.lists.proofs.Tests.{same?, lt?}
 use Rattle.diagrams.specs.Diagram.{Maps, Diagram, Rooted}
-use Rattle.diagrams.specs.Check.{Size, Lengths, Root, Entries, Thrice, Twice, Connected, Accepts, Refuses, no-size, no-lengths, no-root, no-blacks, no-whites, no-thrice, no-twice, no-path, Checked}
+use Rattle.diagrams.specs.Check.{Size, Lengths, Root, Entries, Thrice, Twice, Connected, Accepts, Refuses, no-size, no-lengths, no-root, no-blacks, no-whites, no-thrice, no-twice, no-path, CheckPromise}
 use Rattle.diagrams.specs.Search.{Mapped}
 use Rattle.diagrams.specs.declared.Verdict.{Verdict}
 use Rattle.diagrams.specs.declared.Verdict.the-variants.{Accepted, Refused}
@@ -126,7 +126,7 @@ module _ (s0 s1 : List ℕ) (root : ℕ) where
       go (inl l) = refused-at r .1 (before-asked 9 k l (accepted-at a))
       go (inr l) = refused-at r .1 (rw (List·getD-eq-default conditions Unit l) tt)
 
-  pub checked-once : (a b : Verdict) → Checked s0 s1 root a → Checked s0 s1 root b → a ≡ b
+  pub checked-once : (a b : Verdict) → CheckPromise s0 s1 root a → CheckPromise s0 s1 root b → a ≡ b
   checked-once Accepted Accepted p q = refl
   checked-once Accepted (Refused k) p q = absurd (not-both k p q)
   checked-once (Refused j) Accepted p q = absurd (not-both j q p)

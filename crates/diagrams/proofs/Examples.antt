@@ -4,14 +4,14 @@ use mathlib.Core.List.{List, [], _∷_}
 use Prim.Native.Nat.{ℕ, zero, suc}
 use native.Mathlib.Omega.{arith}
 use Rattle.lists.specs.Lists.{at}
-use Rattle.lists.specs.Ranges.{Edge}
+use Rattle.lists.specs.Ranges.{OneTo}
 use Rattle.diagrams.specs.Diagram.{Reached, here, black, white}
 use Rattle.diagrams.specs.Check.{Refuses, no-path}
 
 abbrev two : List ℕ
 two = 1 ∷ 2 ∷ []
 
-fixed : (x : ℕ) → Edge 2 x → at two x ≡ x
+fixed : (x : ℕ) → OneTo 2 x → at two x ≡ x
 fixed zero e = absurd (omega arith)
 fixed (suc zero) e = refl
 fixed (suc (suc zero)) e = refl
@@ -22,8 +22,8 @@ stays here = refl
 stays (black p) = rw (stays p)
 stays (white p) = rw (stays p)
 
-pub apart-refused : Refuses (1 ∷ 2 ∷ []) (1 ∷ 2 ∷ []) 1 8
-apart-refused =
+pub distinct-refused : Refuses (1 ∷ 2 ∷ []) (1 ∷ 2 ∷ []) 1 8
+distinct-refused =
     no-path (omega arith) refl (omega arith)
     (λ x e. rw (fixed x e) e)
     (λ x e. rw (fixed x e) e)

@@ -8,28 +8,28 @@ use native.Mathlib.Omega.{arith}
 use native.Mathlib.Numerals.{add-one}
 use lib.ListN.{length, getD, take, set, replicate, length-set, length-replicate}
 use lib.Seq.{length-take-le, take-suc-set, take-set-le, take-suc, take-all, take-append-le, getD-take, set-getD}
-use Rattle.lists.specs.Lists.{at, put, Has, has, Apart}
-use Rattle.lists.specs.Ranges.{Edge}
-use Rattle.lists.proofs.Tests.{same?, pick-all}
-use Rattle.lists.proofs.Lists.{has-true, has-false, has?, has-snoc, snoc-has, apart-snoc, has-getD, at-put-same, at-put-other, at-place, put-place, at-zeros, length-1}
+use Rattle.lists.specs.Lists.{at, put, Has, has, Distinct}
+use Rattle.lists.specs.Ranges.{OneTo}
+use Rattle.lists.proofs.Tests.{same?, cond-all}
+use Rattle.lists.proofs.Lists.{has-true, has-false, has?, has-snoc, snoc-has, distinct-snoc, has-getD, at-put-same, at-put-other, at-place, put-place, at-zeros, length-1}
 use Rattle.lists.proofs.Ranges.{edges-few}
 use Rattle.diagrams.specs.Diagram.{Reached, here, black, white}
 use Rattle.diagrams.specs.Check.{Connected, AllOne}
-use Rattle.diagrams.specs.Search.{Mapped, joined, Search}
+use Rattle.diagrams.specs.Search.{Mapped, added, Search}
 use Rattle.diagrams.proofs.Diagrams.{edge-one, reached-edge}
 
 -- ---- an edge on the list is there once
 
-joined-there : (x : ℕ) (l : List ℕ) → Has x l → joined x l ≡ l
+joined-there : (x : ℕ) (l : List ℕ) → Has x l → added x l ≡ l
 joined-there x l h = rw (has-true x l h)
 
-joined-new : (x : ℕ) (l : List ℕ) → ¬ Has x l → joined x l ≡ l ++ (x ∷ [])
+joined-new : (x : ℕ) (l : List ℕ) → ¬ Has x l → added x l ≡ l ++ (x ∷ [])
 joined-new x l n = rw (has-false x l n)
 
-room : (n x : ℕ) (l : List ℕ) → Apart l → ((y : ℕ) → Has y l → Edge n y) → Edge n x → ¬ Has x l → length l < n
+room : (n x : ℕ) (l : List ℕ) → Distinct l → ((y : ℕ) → Has y l → OneTo n y) → OneTo n x → ¬ Has x l → length l < n
 room n x l a k e m = edges-few n (x ∷ l) (m, a) inside
   where
-    inside : (y : ℕ) → Has y (x ∷ l) → Edge n y
+    inside : (y : ℕ) → Has y (x ∷ l) → OneTo n y
     inside y (inl q) = rw q e
     inside y (inr h) = k y h
 
@@ -41,7 +41,7 @@ module _ {marks list : List ℕ} {count : ℕ} (s : Search marks list count) whe
       go (inl h) = h
       go (inr m) = let z = s .other x m in absurd (omega arith)
 
-  module _ (x : ℕ) (e : Edge (length marks) x) where
+  module _ (x : ℕ) (e : OneTo (length marks) x) where
     mark-at : getD marks (x - 1) 0 ≡ at marks x
     mark-at = at-place marks x (e .0)
 
@@ -53,13 +53,13 @@ module _ {marks list : List ℕ} {count : ℕ} (s : Search marks list count) whe
         go (inr m) = let z = mark-at in let w = s .other x m in omega arith
 
     -- x was reached before: what is written past the list's end is not counted
-    again : Has x (take count list) → Search (set marks (x - 1) 1) (set list count x) count × (take count (set list count x) ≡ joined x (take count list))
+    again : Has x (take count list) → Search (set marks (x - 1) 1) (set list count x) count × (take count (set list count x) ≡ added x (take count list))
     again h = (
       record {
         room = rw (length-set marks (x - 1) 1, length-set list count x) (s .room);
         count-fits = rw (length-set marks (x - 1) 1) (s .count-fits);
         edges = rw (length-set marks (x - 1) 1, same) (s .edges);
-        apart = rw same (s .apart);
+        distinct = rw same (s .distinct);
         reached = rw (marks-same, same) (s .reached);
         other = rw (marks-same, same) (s .other);
       },
@@ -74,25 +74,25 @@ module _ {marks list : List ℕ} {count : ℕ} (s : Search marks list count) whe
 
     module _ (new : ¬ Has x (take count list)) where
       below : count < length marks
-      below = let z = room (length marks) x (take count list) (s .apart) (s .edges) e new in let w = length-take-le count list (let i = s .room in let j = s .count-fits in omega arith) in omega arith
+      below = let z = room (length marks) x (take count list) (s .distinct) (s .edges) e new in let w = length-take-le count list (let i = s .room in let j = s .count-fits in omega arith) in omega arith
 
       longer : take (count + 1) (set list count x) ≡ take count list ++ (x ∷ [])
       longer = rw add-one (take-suc-set list count x (let i = s .room in let j = below in omega arith))
 
-      more : Search (set marks (x - 1) 1) (set list count x) (count + 1) × (take (count + 1) (set list count x) ≡ joined x (take count list))
+      more : Search (set marks (x - 1) 1) (set list count x) (count + 1) × (take (count + 1) (set list count x) ≡ added x (take count list))
       more = (
         record {
           room = rw (length-set marks (x - 1) 1, length-set list count x) (s .room);
           count-fits = rw (length-set marks (x - 1) 1) (let l = below in omega arith);
           edges = rw (length-set marks (x - 1) 1, longer) (λ y h. go y (has-snoc y (take count list) x h));
-          apart = rw longer (apart-snoc (take count list) x (s .apart) new);
+          distinct = rw longer (distinct-snoc (take count list) x (s .distinct) new);
           reached = rw (longer, put-place marks x 1 (e .0)) (λ y h. mark y (same? y x) (has-snoc y (take count list) x h));
           other = rw (longer, put-place marks x 1 (e .0)) (λ y m. unmarked y m);
         },
         longer ∙ sym (joined-new x (take count list) new),
       )
         where
-          go : (y : ℕ) → Has y (take count list) ⊎ (y ≡ x) → Edge (length marks) y
+          go : (y : ℕ) → Has y (take count list) ⊎ (y ≡ x) → OneTo (length marks) y
           go y (inl h) = s .edges y h
           go y (inr q) = rw q e
 
@@ -106,21 +106,21 @@ module _ {marks list : List ℕ} {count : ℕ} (s : Search marks list count) whe
 
     -- x is marked, written at the end and counted unless it was marked before
     pub search-reach : (r : ℕ) → r ≡ count + (1 - getD marks (x - 1) 0)
-        → Search (set marks (x - 1) 1) (set list count x) r × (take r (set list count x) ≡ joined x (take count list))
+        → Search (set marks (x - 1) 1) (set list count x) r × (take r (set list count x) ≡ added x (take count list))
     search-reach r q = go (has? x (take count list))
       where
         go : Has x (take count list) ⊎ (¬ Has x (take count list))
-            → Search (set marks (x - 1) 1) (set list count x) r × (take r (set list count x) ≡ joined x (take count list))
+            → Search (set marks (x - 1) 1) (set list count x) r × (take r (set list count x) ≡ added x (take count list))
         go (inl h) = let w : r ≡ count = let z = mark-at in let v = s .reached x h in omega arith in rw w (again h)
         go (inr m) = let w : r ≡ count + 1 = let z = mark-at in let v = s .other x m in omega arith in rw w (more m)
 
 -- ---- both neighbours of an edge have a mark
 
-module _ {s0 s1 : List ℕ} (m : Mapped s0 s1) (n : ℕ) (f : length s0 ≤ n) (k : ℕ) (e : Edge (length s0) k) where
-  pub black-small : Edge n (getD s0 (k - 1) 0)
+module _ {s0 s1 : List ℕ} (m : Mapped s0 s1) (n : ℕ) (f : length s0 ≤ n) (k : ℕ) (e : OneTo (length s0) k) where
+  pub black-small : OneTo n (getD s0 (k - 1) 0)
   black-small = rw (at-place s0 k (e .0)) (let i = m .maps .black-in k e in omega arith)
 
-  pub white-small : Edge n (getD s1 (k - 1) 0)
+  pub white-small : OneTo n (getD s1 (k - 1) 0)
   white-small = rw (at-place s1 k (e .0)) (let i = m .maps .white-in k e in omega arith)
 
 -- ---- what the search has found
@@ -132,28 +132,28 @@ pub record Found (f g : ℕ → ℕ) (l : List ℕ) (done : ℕ) : Type 0 where
   pub visited : done ≤ length l
   pub closed : (x : ℕ) → Has x (take done l) → Has (f x) l × Has (g x) l
 
-joined-keeps : (x y : ℕ) (l : List ℕ) → Has y l → Has y (joined x l)
-joined-keeps x y l h = pick-all (Has y) (has x l) l (l ++ (x ∷ [])) (λ e. h) (λ e. snoc-has y l x (inl h))
+joined-keeps : (x y : ℕ) (l : List ℕ) → Has y l → Has y (added x l)
+joined-keeps x y l h = cond-all (Has y) (has x l) l (l ++ (x ∷ [])) (λ e. h) (λ e. snoc-has y l x (inl h))
 
-joined-has : (x : ℕ) (l : List ℕ) → Has x (joined x l)
+joined-has : (x : ℕ) (l : List ℕ) → Has x (added x l)
 joined-has x l = go (has? x l)
   where
-    go : Has x l ⊎ (¬ Has x l) → Has x (joined x l)
+    go : Has x l ⊎ (¬ Has x l) → Has x (added x l)
     go (inl h) = rw (joined-there x l h) h
     go (inr m) = rw (joined-new x l m) (snoc-has x l x (inr refl))
 
-joined-sound : (P : ℕ → Type 0) (x : ℕ) (l : List ℕ) → P x → ((y : ℕ) → Has y l → P y) → (y : ℕ) → Has y (joined x l) → P y
-joined-sound P x l p k y = pick-all (λ m. Has y m → P y) (has x l) l (l ++ (x ∷ [])) (λ e. k y) (λ e h. go (has-snoc y l x h))
+joined-sound : (P : ℕ → Type 0) (x : ℕ) (l : List ℕ) → P x → ((y : ℕ) → Has y l → P y) → (y : ℕ) → Has y (added x l) → P y
+joined-sound P x l p k y = cond-all (λ m. Has y m → P y) (has x l) l (l ++ (x ∷ [])) (λ e. k y) (λ e h. go (has-snoc y l x h))
   where
     go : Has y l ⊎ (y ≡ x) → P y
     go (inl h) = k y h
     go (inr q) = rw q p
 
-joined-longer : (x : ℕ) (l : List ℕ) → length l ≤ length (joined x l)
-joined-longer x l = pick-all (λ m. length l ≤ length m) (has x l) l (l ++ (x ∷ [])) (λ e. omega arith) (λ e. rw (length-1 l x) (omega arith))
+joined-longer : (x : ℕ) (l : List ℕ) → length l ≤ length (added x l)
+joined-longer x l = cond-all (λ m. length l ≤ length m) (has x l) l (l ++ (x ∷ [])) (λ e. omega arith) (λ e. rw (length-1 l x) (omega arith))
 
-joined-start : (n x : ℕ) (l : List ℕ) → n ≤ length l → take n (joined x l) ≡ take n l
-joined-start n x l h = pick-all (λ m. take n m ≡ take n l) (has x l) l (l ++ (x ∷ [])) (λ e. refl) (λ e. take-append-le n l (x ∷ []) h)
+joined-start : (n x : ℕ) (l : List ℕ) → n ≤ length l → take n (added x l) ≡ take n l
+joined-start n x l h = cond-all (λ m. take n m ≡ take n l) (has x l) l (l ++ (x ∷ [])) (λ e. refl) (λ e. take-append-le n l (x ∷ []) h)
 
 module _ (f g : ℕ → ℕ) where
   pub found-first : Found f g (1 ∷ []) 0
@@ -164,26 +164,26 @@ module _ (f g : ℕ → ℕ) where
       only x (inr h) = absurd h
 
   module _ {l : List ℕ} {done : ℕ} (F : Found f g l done) where
-    found-more : (k : ℕ) → done < length l → k ≡ getD l done 0 → Found f g (joined (g k) (joined (f k) l)) (done + 1)
+    found-more : (k : ℕ) → done < length l → k ≡ getD l done 0 → Found f g (added (g k) (added (f k) l)) (done + 1)
     found-more k h e = record {
       first = keeps 1 (F .first);
-      sound = joined-sound (Reached f g 1) (g k) (joined (f k) l) (white there) (joined-sound (Reached f g 1) (f k) l (black there) (F .sound));
-      visited = let i = joined-longer (f k) l in let j = joined-longer (g k) (joined (f k) l) in omega arith;
+      sound = joined-sound (Reached f g 1) (g k) (added (f k) l) (white there) (joined-sound (Reached f g 1) (f k) l (black there) (F .sound));
+      visited = let i = joined-longer (f k) l in let j = joined-longer (g k) (added (f k) l) in omega arith;
       closed = rw (before, add-one, take-suc l done 0 h, ← e) (λ x m. near x (has-snoc x (take done l) k m));
     }
       where
         there : Reached f g 1 k
         there = F .sound k (rw e (has-getD l done h))
 
-        keeps : (y : ℕ) → Has y l → Has y (joined (g k) (joined (f k) l))
-        keeps y m = joined-keeps (g k) y (joined (f k) l) (joined-keeps (f k) y l m)
+        keeps : (y : ℕ) → Has y l → Has y (added (g k) (added (f k) l))
+        keeps y m = joined-keeps (g k) y (added (f k) l) (joined-keeps (f k) y l m)
 
-        before : take (done + 1) (joined (g k) (joined (f k) l)) ≡ take (done + 1) l
-        before = joined-start (done + 1) (g k) (joined (f k) l) (let i = joined-longer (f k) l in omega arith) ∙ joined-start (done + 1) (f k) l (omega arith)
+        before : take (done + 1) (added (g k) (added (f k) l)) ≡ take (done + 1) l
+        before = joined-start (done + 1) (g k) (added (f k) l) (let i = joined-longer (f k) l in omega arith) ∙ joined-start (done + 1) (f k) l (omega arith)
 
-        near : (x : ℕ) → Has x (take done l) ⊎ (x ≡ k) → Has (f x) (joined (g k) (joined (f k) l)) × Has (g x) (joined (g k) (joined (f k) l))
+        near : (x : ℕ) → Has x (take done l) ⊎ (x ≡ k) → Has (f x) (added (g k) (added (f k) l)) × Has (g x) (added (g k) (added (f k) l))
         near x (inl m) = let c = F .closed x m in (keeps (f x) (c .0), keeps (g x) (c .1))
-        near x (inr q) = rw q (joined-keeps (g k) (f k) (joined (f k) l) (joined-has (f k) l), joined-has (g k) (joined (f k) l))
+        near x (inr q) = rw q (joined-keeps (g k) (f k) (added (f k) l) (joined-has (f k) l), joined-has (g k) (added (f k) l))
 
     -- once every edge of the list is visited, it has all that are reached
     found-all : length l ≤ done → {x : ℕ} → Reached f g 1 x → Has x l
@@ -198,7 +198,7 @@ search-none n = record {
   room = rw (length-replicate {A = ℕ} n 0, length-replicate {A = ℕ} (n + 1) 0) (omega arith);
   count-fits = omega arith;
   edges = λ x h. absurd h;
-  apart = tt;
+  distinct = tt;
   reached = λ x h. absurd h;
   other = λ x m. at-zeros n x;
 }
@@ -211,10 +211,10 @@ module _ {s0 s1 marks list : List ℕ} {count done : ℕ} (m : Mapped s0 s1) (s 
     listed-at : getD (take count list) done 0 ≡ getD list done 0
     listed-at = getD-take count list done 0 h
 
-    pub listed-edge : Edge (length s0) (getD list done 0)
+    pub listed-edge : OneTo (length s0) (getD list done 0)
     listed-edge = reached-edge (m .maps) (edge-one (m .maps)) (F .sound (getD list done 0) (rw listed-at at (has-getD (take count list) done (rw listed-length h))))
 
-    pub found-next : Found (at s0) (at s1) (joined (at s1 (getD list done 0)) (joined (at s0 (getD list done 0)) (take count list))) (done + 1)
+    pub found-next : Found (at s0) (at s1) (added (at s1 (getD list done 0)) (added (at s0 (getD list done 0)) (take count list))) (done + 1)
     found-next = found-more (at s0) (at s1) F (getD list done 0) (rw listed-length h) (sym listed-at)
 
   -- every edge is visited: the marks of 1..n are all 1 exactly if every edge is reached

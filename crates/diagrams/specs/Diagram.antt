@@ -10,7 +10,7 @@ use mathlib.Core.List.{List}
 use Prim.Native.Nat.{ℕ, _≤_}
 use lib.ListN.{length}
 use Rattle.lists.specs.Lists.{at}
-use Rattle.lists.specs.Ranges.{Edge}
+use Rattle.lists.specs.Ranges.{OneTo}
 
 -- a path: none at all, or a path with one black or white step more
 pub data Reached (f g : ℕ → ℕ) (r : ℕ) : ℕ → Type 0 where
@@ -20,16 +20,16 @@ pub data Reached (f g : ℕ → ℕ) (r : ℕ) : ℕ → Type 0 where
 
 pub record Maps (n : ℕ) (f g : ℕ → ℕ) : Type 0 where
   pub some-edge : 1 ≤ n
-  pub black-in : (x : ℕ) → Edge n x → Edge n (f x)
-  pub white-in : (x : ℕ) → Edge n x → Edge n (g x)
-  pub thrice : (x : ℕ) → Edge n x → f (f (f x)) ≡ x
-  pub twice : (x : ℕ) → Edge n x → g (g x) ≡ x
+  pub black-in : (x : ℕ) → OneTo n x → OneTo n (f x)
+  pub white-in : (x : ℕ) → OneTo n x → OneTo n (g x)
+  pub thrice : (x : ℕ) → OneTo n x → f (f (f x)) ≡ x
+  pub twice : (x : ℕ) → OneTo n x → g (g x) ≡ x
 
 pub record Diagram (n : ℕ) (f g : ℕ → ℕ) : Type 0 where
   pub maps : Maps n f g
-  pub connected : (x : ℕ) → Edge n x → Reached f g 1 x
+  pub connected : (x : ℕ) → OneTo n x → Reached f g 1 x
 
 pub record Rooted (s0 s1 : List ℕ) (root : ℕ) : Type 0 where
   pub lengths : length s1 ≡ length s0
-  pub root-in : Edge (length s0) root
+  pub root-in : OneTo (length s0) root
   pub diagram : Diagram (length s0) (at s0) (at s1)

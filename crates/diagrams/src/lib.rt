@@ -3,7 +3,7 @@
 // Check tests its conditions in document 01's order and answers the number of the first that fails, 1 to 8. It takes lists of any
 // length and any root, and its time is linear in the size: each edge is looked at a fixed number of times.
 use lists::fill;
-use lists::wide;
+use lists::to_index;
 ghost use mathlib.Core.Path.{_≡_};
 ghost use mathlib.Core.Logic.{_↔_};
 ghost use mathlib.Core.Bool.{true};
@@ -11,10 +11,10 @@ ghost use mathlib.Core.List.{[], _∷_};
 ghost use Prim.Native.Nat.{_≤_};
 ghost use lib.ListN.{length, take};
 ghost use Rattle.lists.specs.Lists.{at};
-ghost use Rattle.lists.specs.Ranges.{Edge};
-ghost use Rattle.diagrams.specs.Check.{Size, Entries, Thrice, Twice, Connected, Accepts, Checked, AllOne};
-ghost use Rattle.diagrams.specs.Held.{Held, MadeOf};
-ghost use Rattle.diagrams.specs.Search.{Mapped, joined, Search};
+ghost use Rattle.lists.specs.Ranges.{OneTo};
+ghost use Rattle.diagrams.specs.Check.{Size, Entries, Thrice, Twice, Connected, Accepts, CheckPromise, AllOne};
+ghost use Rattle.diagrams.specs.Held.{Held, CheckedDiagramPromise};
+ghost use Rattle.diagrams.specs.Search.{Mapped, added, Search};
 
 // What check answers: Refused holds document 01's number.
 pub enum Verdict {
@@ -59,7 +59,7 @@ impl Diagram {
 
     // The lent diagram by value where check accepts it; a refusal comes with the single edge.
     pub fn checked(s0: &[u16], s1: &[u16], root: u64) -> Made
-        ensures { λ r. ⌜ MadeOf (now (s0 .entry)) (now (s1 .entry)) root r ⌝ }
+        ensures { λ r. ⌜ CheckedDiagramPromise (now (s0 .entry)) (now (s1 .entry)) root r ⌝ }
     {
         let verdict = check(s0, s1, root);
         match verdict {
@@ -95,7 +95,7 @@ fn held(s0: &[u16], s1: &[u16], root: u64) -> Diagram
 // Whether the lent lists and root are a rooted diagram. 1 length of s0 is 0 or above 1,024; 2 lengths differ; 3 root outside 1..n;
 // 4 an s0 entry outside 1..n; 5 the same in s1; 6 s0 thrice moves an edge; 7 s1 twice does; 8 not connected.
 pub fn check(s0: &[u16], s1: &[u16], root: u64) -> Verdict
-    ensures { λ r. ⌜ Checked (now (s0 .entry)) (now (s1 .entry)) root r ⌝ }
+    ensures { λ r. ⌜ CheckPromise (now (s0 .entry)) (now (s1 .entry)) root r ⌝ }
 {
     let n = s0.len();
     if !within(n as u64, Diagram::MAX_SIZE) {
@@ -127,7 +127,7 @@ pub fn check(s0: &[u16], s1: &[u16], root: u64) -> Verdict
 
 // Whether x is one of 1..n. Takes 64 bits, so that no size and no root is cut short before it is tested.
 fn within(x: u64, n: usize) -> bool
-    ensures { λ r. ⌜ (r ≡ true) ↔ Edge n x ⌝ }
+    ensures { λ r. ⌜ (r ≡ true) ↔ OneTo n x ⌝ }
 {
     if x < 1 {
         return false;
@@ -137,10 +137,10 @@ fn within(x: u64, n: usize) -> bool
 
 // The next edge after x round its vertex, by the list s.
 fn next(s: &[u16], x: usize) -> usize
-    requires { ⌜ Edge (length (now s)) x ⌝ }
+    requires { ⌜ OneTo (length (now s)) x ⌝ }
     ensures { λ r. ⌜ r ≡ at (now (s .entry)) x ⌝ }
 {
-    wide(s[x - 1])
+    to_index(s[x - 1])
 }
 
 // Whether every entry is an edge. It looks at all entries in any case, so that several can be looked at together.
@@ -220,7 +220,7 @@ fn connected_in(s0: &[u16], s1: &[u16], marks: &mut [u8], list: &mut [u16]) -> b
     let mut count = reach(marks, list, 0, 1);
     let mut done: usize = 0;
     while done < count {
-        let k = wide(list[done]);
+        let k = to_index(list[done]);
         count = visit(s0, s1, marks, list, count, k);
         done += 1;
     }
@@ -239,23 +239,23 @@ fn visit(
 ) -> usize
     requires { ⌜ Mapped (now s0) (now s1) ⌝ }
     requires { ⌜ length (now s0) ≤ length (now marks) ⌝ }
-    requires { ⌜ Edge (length (now s0)) k ⌝ }
+    requires { ⌜ OneTo (length (now s0)) k ⌝ }
     requires { ⌜ Search (now marks) (now list) count ⌝ }
     ensures { λ r. ⌜ Search (now (marks .exit)) (now (list .exit)) r
-        × (take r (now (list .exit)) ≡ joined (at (now (s1 .entry)) k) (joined (at (now (s0 .entry)) k) (take count (now (list .entry))))) ⌝ }
+        × (take r (now (list .exit)) ≡ added (at (now (s1 .entry)) k) (added (at (now (s0 .entry)) k) (take count (now (list .entry))))) ⌝ }
 {
     let more = reach(marks, list, count, s0[k - 1]);
     reach(marks, list, more, s1[k - 1])
 }
 
-// Edge x is reached: it is marked and put at the end of the list, unless it was before. Returns how many edges the list then has.
+// OneTo x is reached: it is marked and put at the end of the list, unless it was before. Returns how many edges the list then has.
 // Whether x is new is as good as random, so there is no branch on it: x is always written, and counted if its mark was 0.
 fn reach(marks: &mut [u8], list: &mut [u16], count: usize, x: u16) -> usize
     requires { ⌜ Search (now marks) (now list) count ⌝ }
-    requires { ⌜ Edge (length (now marks)) x ⌝ }
-    ensures { λ r. ⌜ Search (now (marks .exit)) (now (list .exit)) r × (take r (now (list .exit)) ≡ joined x (take count (now (list .entry)))) ⌝ }
+    requires { ⌜ OneTo (length (now marks)) x ⌝ }
+    ensures { λ r. ⌜ Search (now (marks .exit)) (now (list .exit)) r × (take r (now (list .exit)) ≡ added x (take count (now (list .entry)))) ⌝ }
 {
-    let i = wide(x) - 1;
+    let i = to_index(x) - 1;
     let mark = marks[i];
     marks[i] = 1;
     list[count] = x;

@@ -10,7 +10,7 @@ use mir.Val.{toZ, ofZ, SFits}
 use mir.Syntax.{w32}
 use mir.ValLaws.{toZ-pos, toZ-ofZ}
 use Rattle.lists.proofs.Tests.{lt-false}
-use Rattle.cycles.specs.Cycles.{e2, e3, c, t}
+use Rattle.invariants_cycles.specs.Cycles.{e2, e3, c, t}
 
 pos-sub : (a b : ℕ) → pos a -ℤ pos b ≡ subℕ a b
 pos-sub a zero = ap pos (none a) ∙ ap (λ less. cond less (negsuc (0 - suc a)) (pos (a - 0))) (sym (lt-false a 0 (omega arith)))

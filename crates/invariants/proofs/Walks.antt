@@ -8,40 +8,40 @@ use native.Mathlib.Omega.{arith}
 use native.Mathlib.Numerals.{add-one}
 use lib.ListN.{length, getD, set}
 use Rattle.lists.specs.Lists.{at, put}
-use Rattle.lists.specs.Ranges.{Edge}
+use Rattle.lists.specs.Ranges.{OneTo}
 use Rattle.lists.proofs.Tests.{same?}
 use Rattle.lists.proofs.Lists.{length-put, at-put-same, at-put-other, at-place, put-place}
 use Rattle.diagrams.specs.Search.{Mapped}
-use Rattle.cycles.specs.Cycles.{Perm, around, after, Same, period}
-use Rattle.cycles.proofs.Cycles.{after-in, Period, period-is, period-most, after-period}
-use Rattle.invariants.specs.Marks.{Marked, Walked}
+use Rattle.invariants_cycles.specs.Cycles.{Permutation, cuspMap, iterate, SameCycle, period}
+use Rattle.invariants_cycles.proofs.Cycles.{after-in, Period, period-is, period-most, after-period}
+use Rattle.invariants.specs.Marks.{MarkedExactly, CycleMarked}
 
 -- ---- one step along a cycle
 
-module _ {s0 s1 : List ℕ} (m : Mapped s0 s1) (x : ℕ) (e : Edge (length s0) x) where
+module _ {s0 s1 : List ℕ} (m : Mapped s0 s1) (x : ℕ) (e : OneTo (length s0) x) where
   -- the white partner, as the code reads it
-  pub partner-in : Edge (length s0) (getD s1 (x - 1) 0)
+  pub partner-in : OneTo (length s0) (getD s1 (x - 1) 0)
   partner-in = rw (at-place s1 x (e .0)) (m .maps .white-in x e)
 
-  pub onward-is : getD s0 (getD s1 (x - 1) 0 - 1) 0 ≡ around (at s0) (at s1) x
+  pub onward-is : getD s0 (getD s1 (x - 1) 0 - 1) 0 ≡ cuspMap (at s0) (at s1) x
   onward-is = at-place s0 _ (partner-in .0) ∙ ap (at s0) (at-place s1 x (e .0))
 
 -- ---- marks
 
-pub marked-as : {n : ℕ} {seen : List ℕ} {R S : ℕ → Type 0} → Marked n seen R → ((x : ℕ) → Edge n x → R x → S x) → ((x : ℕ) → Edge n x → S x → R x) → Marked n seen S
+pub marked-as : {n : ℕ} {seen : List ℕ} {R S : ℕ → Type 0} → MarkedExactly n seen R → ((x : ℕ) → OneTo n x → R x → S x) → ((x : ℕ) → OneTo n x → S x → R x) → MarkedExactly n seen S
 marked-as m to from = record { long = m .long; mark = λ x e. (λ q. to x e (m .mark x e .0 q), λ q. m .mark x e .1 (from x e q)) }
 
-marked-put : {n : ℕ} {seen : List ℕ} {R : ℕ → Type 0} (a : ℕ) → Edge n a → n ≤ 1024 → Marked n seen R → Marked n (put seen a 1) (λ x. R x ⊎ (x ≡ a))
+marked-put : {n : ℕ} {seen : List ℕ} {R : ℕ → Type 0} (a : ℕ) → OneTo n a → n ≤ 1024 → MarkedExactly n seen R → MarkedExactly n (put seen a 1) (λ x. R x ⊎ (x ≡ a))
 marked-put {n} {seen} {R} a e l m = record { long = length-put seen a 1 ∙ m .long; mark = λ x i. (to x i (same? x a), from x i (same? x a)) }
   where
     new : at (put seen a 1) a ≡ 1
     new = at-put-same seen a 1 (let h = m .long in omega arith)
 
-    to : (x : ℕ) → Edge n x → (x ≡ a) ⊎ (x ≢ a) → at (put seen a 1) x ≡ 1 → R x ⊎ (x ≡ a)
+    to : (x : ℕ) → OneTo n x → (x ≡ a) ⊎ (x ≢ a) → at (put seen a 1) x ≡ 1 → R x ⊎ (x ≡ a)
     to x i (inl s) q = inr s
     to x i (inr s) q = inl (m .mark x i .0 (sym (at-put-other seen a 1 x s) ∙ q))
 
-    from : (x : ℕ) → Edge n x → (x ≡ a) ⊎ (x ≢ a) → R x ⊎ (x ≡ a) → at (put seen a 1) x ≡ 1
+    from : (x : ℕ) → OneTo n x → (x ≡ a) ⊎ (x ≢ a) → R x ⊎ (x ≡ a) → at (put seen a 1) x ≡ 1
     from x i (inl s) q = rw s new
     from x i (inr s) (inl r) = at-put-other seen a 1 x s ∙ m .mark x i .1 r
     from x i (inr s) (inr r) = absurd (s r)
@@ -50,14 +50,14 @@ marked-put {n} {seen} {R} a e l m = record { long = length-put seen a 1 ∙ m .l
 
 -- y is one of the first k edges of the cycle, from i on
 abbrev Passed : (ℕ → ℕ) → ℕ → ℕ → ℕ → Type 0
-Passed φ i k y = (j : ℕ) × (j < k) × (after φ j i ≡ y)
+Passed φ i k y = (j : ℕ) × (j < k) × (iterate φ j i ≡ y)
 
 pub record Walking (n : ℕ) (φ : ℕ → ℕ) (i : ℕ) (old seen : List ℕ) (x k : ℕ) : Type 0 where
   pub few : k < period n φ i
-  pub place : x ≡ after φ k i
-  pub marks : Marked n seen (λ y. (at old y ≡ 1) ⊎ Passed φ i k y)
+  pub place : x ≡ iterate φ k i
+  pub marks : MarkedExactly n seen (λ y. (at old y ≡ 1) ⊎ Passed φ i k y)
 
-module _ {n : ℕ} {φ : ℕ → ℕ} (p : Perm n φ) (l : n ≤ 1024) (i : ℕ) (e : Edge n i) where
+module _ {n : ℕ} {φ : ℕ → ℕ} (p : Permutation n φ) (l : n ≤ 1024) (i : ℕ) (e : OneTo n i) where
   round : Period φ i (period n φ i)
   round = period-is p i e
 
@@ -69,14 +69,14 @@ module _ {n : ℕ} {φ : ℕ → ℕ} (p : Perm n φ) (l : n ≤ 1024) (i : ℕ)
       from y (inr q) = let h = q .1 in absurd (omega arith)
 
   module _ {old seen : List ℕ} {x k : ℕ} (w : Walking n φ i old seen x k) where
-    pub walk-in : Edge n x
+    pub walk-in : OneTo n x
     walk-in = rw (w .place) (after-in p k i e)
 
     pub walk-few : k < n
     walk-few = let h = w .few in let m = period-most p i e in omega arith
 
     -- x has its mark too
-    walk-marks : Marked n (set seen (x - 1) 1) (λ y. (at old y ≡ 1) ⊎ Passed φ i (suc k) y)
+    walk-marks : MarkedExactly n (set seen (x - 1) 1) (λ y. (at old y ≡ 1) ⊎ Passed φ i (suc k) y)
     walk-marks = rw (put-place seen x 1 (walk-in .0)) (marked-as (marked-put x walk-in l (w .marks)) (λ y d. to y) (λ y d. from y))
       where
         to : (y : ℕ) → ((at old y ≡ 1) ⊎ Passed φ i k y) ⊎ (y ≡ x) → (at old y ≡ 1) ⊎ Passed φ i (suc k) y
@@ -89,24 +89,24 @@ module _ {n : ℕ} {φ : ℕ → ℕ} (p : Perm n φ) (l : n ≤ 1024) (i : ℕ)
         from y (inr q) = go (same? (q .0) k)
           where
             go : (q .0 ≡ k) ⊎ (q .0 ≢ k) → ((at old y ≡ 1) ⊎ Passed φ i k y) ⊎ (y ≡ x)
-            go (inl z) = inr (sym (q .2) ∙ ap (λ j. after φ j i) z ∙ sym (w .place))
+            go (inl z) = inr (sym (q .2) ∙ ap (λ j. iterate φ j i) z ∙ sym (w .place))
             go (inr z) = let h = q .1 in inl (inr (q .0, omega arith, q .2))
 
     -- the step has led to y
     module _ (y : ℕ) (s : y ≡ φ x) where
-      reached : y ≡ after φ (suc k) i
+      reached : y ≡ iterate φ (suc k) i
       reached = s ∙ ap φ (w .place)
 
       pub walk-next : y ≢ i → Walking n φ i old (set seen (x - 1) 1) y (k + 1)
       walk-next m = rw (add-one k) (record { few = let h = w .few in let z = not-yet in omega arith; place = reached; marks = walk-marks })
         where
           not-yet : suc k ≢ period n φ i
-          not-yet q = m (reached ∙ ap (λ j. after φ j i) q ∙ round .back)
+          not-yet q = m (reached ∙ ap (λ j. iterate φ j i) q ∙ round .back)
 
-      pub walk-end : y ≡ i → (k + 1 ≡ period n φ i) × Walked n φ i old (set seen (x - 1) 1)
+      pub walk-end : y ≡ i → (k + 1 ≡ period n φ i) × CycleMarked n φ i old (set seen (x - 1) 1)
       walk-end m = (add-one k ∙ full, marked-as walk-marks (λ z d. to z) (λ z d. from z))
         where
-          back : after φ (suc k) i ≡ i
+          back : iterate φ (suc k) i ≡ i
           back = sym reached ∙ m
 
           full : suc k ≡ period n φ i
@@ -116,14 +116,14 @@ module _ {n : ℕ} {φ : ℕ → ℕ} (p : Perm n φ) (l : n ≤ 1024) (i : ℕ)
               go (inl q) = q
               go (inr q) = let h = w .few in absurd (round .first (suc k) (omega arith) (omega arith) back)
 
-          to : (z : ℕ) → (at old z ≡ 1) ⊎ Passed φ i (suc k) z → (at old z ≡ 1) ⊎ Same φ i z
+          to : (z : ℕ) → (at old z ≡ 1) ⊎ Passed φ i (suc k) z → (at old z ≡ 1) ⊎ SameCycle φ i z
           to z (inl q) = inl q
           to z (inr q) = inr (q .0, q .2)
 
-          from : (z : ℕ) → (at old z ≡ 1) ⊎ Same φ i z → (at old z ≡ 1) ⊎ Passed φ i (suc k) z
+          from : (z : ℕ) → (at old z ≡ 1) ⊎ SameCycle φ i z → (at old z ≡ 1) ⊎ Passed φ i (suc k) z
           from z (inl q) = inl q
           from z (inr q) = let r = after-period p i e (q .0) in inr (go r (same? (r .0) (suc k)))
             where
-              go : (r : (j : ℕ) × Edge (period n φ i) j × (after φ (q .0) i ≡ after φ j i)) → (r .0 ≡ suc k) ⊎ (r .0 ≢ suc k) → Passed φ i (suc k) z
-              go r (inl u) = (0, omega arith, sym back ∙ ap (λ j. after φ j i) (sym u) ∙ sym (r .2) ∙ q .1)
+              go : (r : (j : ℕ) × OneTo (period n φ i) j × (iterate φ (q .0) i ≡ iterate φ j i)) → (r .0 ≡ suc k) ⊎ (r .0 ≢ suc k) → Passed φ i (suc k) z
+              go r (inl u) = (0, omega arith, sym back ∙ ap (λ j. iterate φ j i) (sym u) ∙ sym (r .2) ∙ q .1)
               go r (inr u) = let h = r .1 in let f = full in (r .0, omega arith, sym (r .2) ∙ q .1)

@@ -3,17 +3,17 @@
 use diagrams::Diagram;
 use diagrams::Verdict;
 use diagrams::check;
-use lists::wide;
+use lists::to_index;
 ghost use mathlib.Core.Path.{_≡_};
 ghost use Prim.Native.Nat.{_+_, _*_, _≤_, max};
 ghost use lib.IntN.{subℕ};
 ghost use lib.ListN.{length};
 ghost use Rattle.lists.specs.Lists.{at};
-ghost use Rattle.lists.specs.Ranges.{Edge};
+ghost use Rattle.lists.specs.Ranges.{OneTo};
 ghost use Rattle.diagrams.specs.Search.{Mapped};
-ghost use Rattle.cycles.specs.Cycles.{around, cycles, fixes, longest, period};
-ghost use Rattle.invariants.specs.Marks.{Walked};
-ghost use Rattle.invariants.specs.Promises.{Invariants, Measures};
+ghost use Rattle.invariants_cycles.specs.Cycles.{cuspMap, cycles, fixedPoints, longest, period};
+ghost use Rattle.invariants.specs.Marks.{CycleMarked};
+ghost use Rattle.invariants.specs.Promises.{Invariants, InvariantsPromise};
 
 pub struct Numbers {
     pub e2: u16,
@@ -37,12 +37,12 @@ struct Cycles {
 // How many edges the list fixes.
 fn fixed(s: &[u16]) -> u16
     requires { ⌜ length (now s) ≤ 1024 ⌝ }
-    ensures { λ r. ⌜ r ≡ fixes (length (now (s .entry))) (at (now (s .entry))) ⌝ }
+    ensures { λ r. ⌜ r ≡ fixedPoints (length (now (s .entry))) (at (now (s .entry))) ⌝ }
 {
     let mut count: u16 = 0;
     let mut i: usize = 0;
     while i < s.len() {
-        let x = wide(s[i]);
+        let x = to_index(s[i]);
         i += 1;
         if x == i {
             count += 1;
@@ -52,28 +52,28 @@ fn fixed(s: &[u16]) -> u16
 }
 
 // The edge after x on its cycle: s0(s1(x)).
-fn onward(s0: &[u16], s1: &[u16], x: usize) -> usize
+fn next_edge(s0: &[u16], s1: &[u16], x: usize) -> usize
     requires { ⌜ Mapped (now s0) (now s1) ⌝ }
-    requires { ⌜ Edge (length (now s0)) x ⌝ }
-    ensures { λ r. ⌜ r ≡ around (at (now (s0 .entry))) (at (now (s1 .entry))) x ⌝ }
+    requires { ⌜ OneTo (length (now s0)) x ⌝ }
+    ensures { λ r. ⌜ r ≡ cuspMap (at (now (s0 .entry))) (at (now (s1 .entry))) x ⌝ }
 {
-    let partner = wide(s1[x - 1]);
-    wide(s0[partner - 1])
+    let partner = to_index(s1[x - 1]);
+    to_index(s0[partner - 1])
 }
 
 // Marks the cycle of edge i, and counts its edges.
 fn walk(s0: &[u16], s1: &[u16], seen: &mut [u8; Diagram::MAX_SIZE], i: usize) -> u16
     requires { ⌜ Mapped (now s0) (now s1) ⌝ }
-    requires { ⌜ Edge (length (now s0)) i ⌝ }
+    requires { ⌜ OneTo (length (now s0)) i ⌝ }
     requires { ⌜ length (now seen) ≡ 1024 ⌝ }
-    ensures { λ r. ⌜ r ≡ period (length (now (s0 .entry))) (around (at (now (s0 .entry))) (at (now (s1 .entry)))) i ⌝ }
-    ensures { λ _. ⌜ Walked (length (now (s0 .entry))) (around (at (now (s0 .entry))) (at (now (s1 .entry)))) i (now (seen .entry)) (now (seen .exit)) ⌝ }
+    ensures { λ r. ⌜ r ≡ period (length (now (s0 .entry))) (cuspMap (at (now (s0 .entry))) (at (now (s1 .entry)))) i ⌝ }
+    ensures { λ _. ⌜ CycleMarked (length (now (s0 .entry))) (cuspMap (at (now (s0 .entry))) (at (now (s1 .entry)))) i (now (seen .entry)) (now (seen .exit)) ⌝ }
 {
     let mut x = i;
     let mut k: u16 = 0;
     loop {
         seen[x - 1] = 1;
-        x = onward(s0, s1, x);
+        x = next_edge(s0, s1, x);
         k += 1;
         if x == i {
             return k;
@@ -90,8 +90,8 @@ fn larger(a: u16, b: u16) -> u16
 // Walks round each cycle once, from the least of its edges, which is the first to be met without a mark.
 fn count_cycles(s0: &[u16], s1: &[u16]) -> Cycles
     requires { ⌜ Mapped (now s0) (now s1) ⌝ }
-    ensures { λ r. ⌜ r .count ≡ cycles (length (now (s0 .entry))) (around (at (now (s0 .entry))) (at (now (s1 .entry)))) ⌝ }
-    ensures { λ r. ⌜ r .longest ≡ longest (length (now (s0 .entry))) (around (at (now (s0 .entry))) (at (now (s1 .entry)))) ⌝ }
+    ensures { λ r. ⌜ r .count ≡ cycles (length (now (s0 .entry))) (cuspMap (at (now (s0 .entry))) (at (now (s1 .entry)))) ⌝ }
+    ensures { λ r. ⌜ r .longest ≡ longest (length (now (s0 .entry))) (cuspMap (at (now (s0 .entry))) (at (now (s1 .entry)))) ⌝ }
 {
     let mut seen = [0u8; Diagram::MAX_SIZE];
     let mut count: u16 = 0;
@@ -128,7 +128,7 @@ fn measure(s0: &[u16], s1: &[u16]) -> Numbers
     let e3 = fixed(s0);
     let cycles = count_cycles(s0, s1);
     let c = cycles.count;
-    let t = t(s0.len(), wide(e2), wide(e3), wide(c));
+    let t = t(s0.len(), to_index(e2), to_index(e3), to_index(c));
     Numbers {
         e2,
         e3,
@@ -140,7 +140,7 @@ fn measure(s0: &[u16], s1: &[u16]) -> Numbers
 
 // The invariants of a lent diagram, or check's refusal.
 pub fn invariants(s0: &[u16], s1: &[u16], root: u64) -> Measured
-    ensures { λ r. ⌜ Measures (now (s0 .entry)) (now (s1 .entry)) root r ⌝ }
+    ensures { λ r. ⌜ InvariantsPromise (now (s0 .entry)) (now (s1 .entry)) root r ⌝ }
 {
     let verdict = check(s0, s1, root);
     match verdict {

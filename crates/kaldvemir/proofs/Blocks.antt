@@ -5,39 +5,39 @@ use mathlib.Core.List.{List, _∷_}
 use Prim.Native.Nat.{ℕ, zero, suc, _+_, _≤_}
 use native.Mathlib.Omega.{arith}
 use lib.ListN.{length, getD}
-use Rattle.lists.specs.Ranges.{Edge}
-use Rattle.counting.specs.Listing.{count}
-use Rattle.positions.proofs.Answers.{at-length}
-use Rattle.running.specs.declared.Run.{Run}
-use Rattle.running.specs.Promises.{Stands, Over, given}
-use Rattle.running.proofs.Standing.{stands-size}
-use Rattle.listing.specs.Promises.{Leaves, Lists}
-use Rattle.listing.specs.declared.Listing.the-variants.{Rows}
-use Rattle.layout.specs.Layout.{run-of, run-numbers}
+use Rattle.lists.specs.Ranges.{OneTo}
+use Rattle.listing.specs.Listing.{count}
+use Rattle.listing_ranking.proofs.Answers.{at-length}
+use Rattle.run_steps.specs.declared.Run.{Run}
+use Rattle.run_steps.specs.Promises.{RunAt, RunFinished, runAfter}
+use Rattle.run_steps.proofs.Standing.{stands-size}
+use Rattle.run_blocks.specs.Promises.{RunAfterRows, ListPromise}
+use Rattle.run_blocks.specs.declared.Listing.the-variants.{Rows}
+use Rattle.kaldvemir_layout.specs.Layout.{run-of, run-numbers}
 
 pub record Fitting (l : List ℕ) (next : Run) : Type 0 where
   pub stage-small : next .stage ≤ 2
   pub length-small : next .length ≤ 51
   pub size-same : next .size ≡ getD l 0 0
 
-pub over-fits : (l : List ℕ) (n : ℕ) (next : Run) → Over n (run-of l) → next ≡ run-of l → Fitting l next
+pub over-fits : (l : List ℕ) (n : ℕ) (next : Run) → RunFinished n (run-of l) → next ≡ run-of l → Fitting l next
 over-fits l n next o e =
     let f = e ∙ o .is in
     record { stage-small = rw f (omega arith); length-small = rw f (omega arith); size-same = ap (λ (r : Run). r .size) e }
 
-at-fits : (l : List ℕ) (n q : ℕ) (next : Run) → Edge 50 n → q ≤ count n → getD l 0 0 ≡ n → next ≡ given n q → Fitting l next
+at-fits : (l : List ℕ) (n q : ℕ) (next : Run) → OneTo 50 n → q ≤ count n → getD l 0 0 ≡ n → next ≡ runAfter n q → Fitting l next
 at-fits l n zero next b h s e = record { stage-small = rw e (omega arith); length-small = rw e (omega arith); size-same = rw (e, s) refl }
 at-fits l n (suc q) next b h s e =
     let w = at-length n (suc q) (omega arith, h) in
     record { stage-small = rw e (omega arith); length-small = rw e (omega arith); size-same = rw (e, s) refl }
 
-pub gave-fits : (l : List ℕ) (n p rows k : ℕ) (next : Run) → Stands n p (run-of l) → Leaves n p rows k next → Fitting l next
+pub gave-fits : (l : List ℕ) (n p rows k : ℕ) (next : Run) → RunAt n p (run-of l) → RunAfterRows n p rows k next → Fitting l next
 gave-fits l n p rows k next s (inl (a, h, e)) = at-fits l n (p + k) next (s .sized) h (stands-size n p (run-of l) s) e
 gave-fits l n p rows k next s (inr (a, h, e)) = record { stage-small = rw e (omega arith); length-small = rw e (omega arith); size-same = rw (e, stands-size n p (run-of l) s) refl }
 
 pub fitting-numbers : (l : List ℕ) (next : Run) → Fitting l next → getD l 0 0 ∷ next .stage ∷ next .length ∷ next .items ≡ run-numbers next
 fitting-numbers l next f = rw (f .size-same) refl
 
-pub rows-fit : (l : List ℕ) (rows k : ℕ) (next : Run) (a0 a1 aw al b0 b1 bw bl : List ℕ) → Lists (run-of l) rows a0 a1 aw al next b0 b1 bw bl (Rows k) → Fitting l next
+pub rows-fit : (l : List ℕ) (rows k : ℕ) (next : Run) (a0 a1 aw al b0 b1 bw bl : List ℕ) → ListPromise (run-of l) rows a0 a1 aw al next b0 b1 bw bl (Rows k) → Fitting l next
 rows-fit l rows k next a0 a1 aw al b0 b1 bw bl (inl x) = over-fits l (x .0 .0) next (x .0 .1) (x .2)
 rows-fit l rows k next a0 a1 aw al b0 b1 bw bl (inr g) = gave-fits l (g .size) (g .place) rows k next (g .stands) (g .leaves)

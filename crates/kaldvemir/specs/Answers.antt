@@ -3,11 +3,11 @@
 -- pointer after the call; it is `old`, what stood there before, where the answer has no such value.
 pub use Rattle.diagrams.specs.Answers.{check-number}
 pub use Rattle.words.specs.Answers.{letters-number, letters-length}
-pub use Rattle.reading.specs.Answers.{read-number, read-size}
-pub use Rattle.canonical.specs.Answers.{relabel-number, relabel-length, compare-number, compare-same, compare-side, symmetries-number, symmetries-count, kept-number, kept-mark}
+pub use Rattle.words_reading.specs.Answers.{read-number, read-size}
+pub use Rattle.labelling_operations.specs.Answers.{relabel-number, relabel-length, compare-number, compare-same, compare-side, symmetries-number, symmetries-count, kept-number, kept-mark}
 pub use Rattle.invariants.specs.Answers.{invariants-number, invariants-e2, invariants-e3, invariants-c, invariants-t, invariants-level}
-pub use Rattle.positions.specs.Answers.{count-number, count-total, entry-number, entry-length, located-number, located-position}
-pub use Rattle.walking.specs.Answers.{walk-number, walk-count}
-pub use Rattle.running.specs.Answers.{begin-number, step-number, step-length}
-pub use Rattle.listing.specs.Answers.{list-number, list-rows}
+pub use Rattle.listing_ranking.specs.Answers.{count-number, count-total, entry-number, entry-length, located-number, located-position}
+pub use Rattle.listing_plain_walk.specs.Answers.{walk-number, walk-count}
+pub use Rattle.run_steps.specs.Answers.{begin-number, step-number, step-length}
+pub use Rattle.run_blocks.specs.Answers.{list-number, list-rows}
 pub use Rattle.book.specs.Answers.{opening-number, claiming-number, claiming-ticket, taking-number, taking-share, taking-position, taking-length, committing-number, releasing-number, reporting-number, reporting-committed, reporting-complete}

@@ -5,21 +5,21 @@ use book::Committing;
 use book::Releasing;
 use book::Reporting;
 use book::Taking;
-use canonical::Comparison;
-use canonical::KeepMark;
-use canonical::Relabelling;
-use canonical::Symmetry;
+use labelling_operations::Comparison;
+use labelling_operations::KeepMark;
+use labelling_operations::Relabelling;
+use labelling_operations::Symmetry;
 use diagrams::Verdict;
 use invariants::Measured;
-use layout::long;
-use positions::Entry;
-use positions::Place;
-use positions::Total;
-use reading::Reading;
-use walking::Walked;
+use kaldvemir_layout::long;
+use listing_ranking::Entry;
+use listing_ranking::Place;
+use listing_ranking::Total;
+use words_reading::Reading;
+use listing_plain_walk::Walked;
 use words::Lettered;
 ghost use mathlib.Core.Path.{_≡_};
-ghost use Rattle.lists.specs.Lists.{pick};
+ghost use mathlib.Core.Bool.{cond};
 ghost use Rattle.kaldvemir.specs.Answers as answers;
 
 pub fn check_answer(a: Verdict) -> u16
@@ -259,7 +259,7 @@ pub fn release_answer(a: Releasing) -> u16
 
 // 1 for yes, 0 for no.
 fn truth(b: bool) -> u64
-    ensures { λ r. ⌜ r ≡ pick b 1 0 ⌝ }
+    ensures { λ r. ⌜ r ≡ cond b 1 0 ⌝ }
 {
     if b { 1 } else { 0 }
 }

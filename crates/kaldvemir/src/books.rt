@@ -6,22 +6,22 @@ use crate::answers::report_answer;
 use crate::answers::take_answer;
 use book::Book;
 use book::Opening;
-use cores::decisions::claim;
-use cores::decisions::commit;
-use cores::decisions::release;
-use cores::decisions::report;
-use cores::decisions::take;
-use cores::open_core;
-use layout::books::change;
-use layout::books::heads;
-use layout::books::put_back;
+use book_operations::decisions::claim;
+use book_operations::decisions::commit;
+use book_operations::decisions::release;
+use book_operations::decisions::report;
+use book_operations::decisions::take;
+use book_operations::open_core;
+use kaldvemir_layout::books::change;
+use kaldvemir_layout::books::heads;
+use kaldvemir_layout::books::put_back;
 ghost use mathlib.Core.Path.{_≡_};
 ghost use Rattle.book.specs.Calls.{open-answer, open-book, claim-answer, claim-book, commit-answer, commit-book, release-answer, release-book, report-answer};
-ghost use Rattle.book.specs.Taken.{Taken};
+ghost use Rattle.book.specs.Taken.{TakePromise};
 ghost use Rattle.book.specs.declared.types.Book.{Book};
 ghost use Rattle.book.specs.declared.types.Taking.{Taking};
 ghost use Rattle.kaldvemir.specs.Answers as answers;
-ghost use Rattle.layout.specs.Layout.{book-of, book-numbers};
+ghost use Rattle.kaldvemir_layout.specs.Layout.{book-of, book-numbers};
 
 // A book of zeros, for open to decide on: it asks nothing of the book that it is to alter.
 fn blank() -> Book {
@@ -98,7 +98,7 @@ pub extern "C" fn kaldvemir_take(
     length: &mut u64,
 ) -> u16
     ensures { λ r. ⌜ ((a : Taking) × (next : Book)
-        × Taken (book-of (now (book .entry))) tick ticket (now (s0 .entry)) (now (s1 .entry)) (now (word .entry)) a next (now (s0 .exit)) (now (s1 .exit)) (now (word .exit))
+        × TakePromise (book-of (now (book .entry))) tick ticket (now (s0 .entry)) (now (s1 .entry)) (now (word .entry)) a next (now (s0 .exit)) (now (s1 .exit)) (now (word .exit))
         × (r ≡ answers.taking-number a)
         × (now (share .exit) ≡ answers.taking-share a (now (share .entry)))
         × (now (position .exit) ≡ answers.taking-position a (now (position .entry)))

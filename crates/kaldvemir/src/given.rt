@@ -8,20 +8,20 @@ use crate::answers::symmetries_answer;
 ghost use mathlib.Core.Path.{_≡_};
 ghost use mathlib.Core.Logic.{_↔_};
 ghost use mathlib.Core.Bool.{true};
-ghost use Rattle.diagrams.specs.Check.{Checked, AllOne};
+ghost use Rattle.diagrams.specs.Check.{CheckPromise, AllOne};
 ghost use Rattle.diagrams.specs.declared.Verdict.{Verdict};
-ghost use Rattle.canonical.specs.Promises.{Relabelled, ComparedRooted, ComparedUnrooted, Symmetric, Marked};
-ghost use Rattle.canonical.specs.declared.Relabelling.{Relabelling};
-ghost use Rattle.canonical.specs.declared.Comparison.{Comparison};
-ghost use Rattle.canonical.specs.declared.Symmetry.{Symmetry};
-ghost use Rattle.canonical.specs.declared.KeepMark.{KeepMark};
-ghost use Rattle.invariants.specs.Promises.{Measures};
+ghost use Rattle.labelling_operations.specs.Promises.{RelabelPromise, CompareRootedPromise, CompareUnrootedPromise, SymmetriesPromise, KeptPromise};
+ghost use Rattle.labelling_operations.specs.declared.Relabelling.{Relabelling};
+ghost use Rattle.labelling_operations.specs.declared.Comparison.{Comparison};
+ghost use Rattle.labelling_operations.specs.declared.Symmetry.{Symmetry};
+ghost use Rattle.labelling_operations.specs.declared.KeepMark.{KeepMark};
+ghost use Rattle.invariants.specs.Promises.{InvariantsPromise};
 ghost use Rattle.invariants.specs.declared.Measured.{Measured};
 ghost use Rattle.kaldvemir.specs.Answers as answers;
 
 #[no_mangle]
 pub extern "C" fn kaldvemir_check(s0: &[u16], s1: &[u16], root: u64) -> u16
-    ensures { λ r. ⌜ ((a : Verdict) × Checked (now (s0 .entry)) (now (s1 .entry)) root a × (r ≡ answers.check-number a)) ⌝ }
+    ensures { λ r. ⌜ ((a : Verdict) × CheckPromise (now (s0 .entry)) (now (s1 .entry)) root a × (r ≡ answers.check-number a)) ⌝ }
 {
     check_answer(diagrams::check(s0, s1, root))
 }
@@ -44,11 +44,11 @@ pub extern "C" fn kaldvemir_relabel(
     length: &mut u64,
 ) -> u16
     ensures { λ r. ⌜ ((a : Relabelling)
-        × Relabelled (now (s0 .entry)) (now (s1 .entry)) root (now (t0 .entry)) (now (t1 .entry)) (now (word .entry)) (now (t0 .exit)) (now (t1 .exit)) (now (word .exit)) a
+        × RelabelPromise (now (s0 .entry)) (now (s1 .entry)) root (now (t0 .entry)) (now (t1 .entry)) (now (word .entry)) (now (t0 .exit)) (now (t1 .exit)) (now (word .exit)) a
         × (r ≡ answers.relabel-number a)
         × (now (length .exit) ≡ answers.relabel-length a (now (length .entry)))) ⌝ }
 {
-    let a = canonical::relabel(s0, s1, root, t0, t1, word);
+    let a = labelling_operations::relabel(s0, s1, root, t0, t1, word);
     relabel_answer(a, length)
 }
 
@@ -64,12 +64,12 @@ pub extern "C" fn kaldvemir_compare_rooted(
     side: &mut u64,
 ) -> u16
     ensures { λ n. ⌜ ((a : Comparison)
-        × ComparedRooted (now (s0 .entry)) (now (s1 .entry)) r (now (t0 .entry)) (now (t1 .entry)) q a
+        × CompareRootedPromise (now (s0 .entry)) (now (s1 .entry)) r (now (t0 .entry)) (now (t1 .entry)) q a
         × (n ≡ answers.compare-number a)
         × (now (same .exit) ≡ answers.compare-same a (now (same .entry)))
         × (now (side .exit) ≡ answers.compare-side a (now (side .entry)))) ⌝ }
 {
-    let a = canonical::compare_rooted(s0, s1, r, t0, t1, q);
+    let a = labelling_operations::compare_rooted(s0, s1, r, t0, t1, q);
     compare_answer(a, same, side)
 }
 
@@ -85,34 +85,34 @@ pub extern "C" fn kaldvemir_compare_unrooted(
     side: &mut u64,
 ) -> u16
     ensures { λ n. ⌜ ((a : Comparison)
-        × ComparedUnrooted (now (s0 .entry)) (now (s1 .entry)) r (now (t0 .entry)) (now (t1 .entry)) q a
+        × CompareUnrootedPromise (now (s0 .entry)) (now (s1 .entry)) r (now (t0 .entry)) (now (t1 .entry)) q a
         × (n ≡ answers.compare-number a)
         × (now (same .exit) ≡ answers.compare-same a (now (same .entry)))
         × (now (side .exit) ≡ answers.compare-side a (now (side .entry)))) ⌝ }
 {
-    let a = canonical::compare_unrooted(s0, s1, r, t0, t1, q);
+    let a = labelling_operations::compare_unrooted(s0, s1, r, t0, t1, q);
     compare_answer(a, same, side)
 }
 
 #[no_mangle]
 pub extern "C" fn kaldvemir_symmetries(s0: &[u16], s1: &[u16], root: u64, count: &mut u64) -> u16
     ensures { λ r. ⌜ ((a : Symmetry)
-        × Symmetric (now (s0 .entry)) (now (s1 .entry)) root a
+        × SymmetriesPromise (now (s0 .entry)) (now (s1 .entry)) root a
         × (r ≡ answers.symmetries-number a)
         × (now (count .exit) ≡ answers.symmetries-count a (now (count .entry)))) ⌝ }
 {
-    let a = canonical::symmetries(s0, s1, root);
+    let a = labelling_operations::symmetries(s0, s1, root);
     symmetries_answer(a, count)
 }
 
 #[no_mangle]
 pub extern "C" fn kaldvemir_kept(s0: &[u16], s1: &[u16], root: u64, kept: &mut u64) -> u16
     ensures { λ r. ⌜ ((a : KeepMark)
-        × Marked (now (s0 .entry)) (now (s1 .entry)) root a
+        × KeptPromise (now (s0 .entry)) (now (s1 .entry)) root a
         × (r ≡ answers.kept-number a)
         × (now (kept .exit) ≡ answers.kept-mark a (now (kept .entry)))) ⌝ }
 {
-    let a = canonical::kept(s0, s1, root);
+    let a = labelling_operations::kept(s0, s1, root);
     kept_answer(a, kept)
 }
 
@@ -128,7 +128,7 @@ pub extern "C" fn kaldvemir_invariants(
     level: &mut u16,
 ) -> u16
     ensures { λ r. ⌜ ((a : Measured)
-        × Measures (now (s0 .entry)) (now (s1 .entry)) root a
+        × InvariantsPromise (now (s0 .entry)) (now (s1 .entry)) root a
         × (r ≡ answers.invariants-number a)
         × (now (e2 .exit) ≡ answers.invariants-e2 a (now (e2 .entry)))
         × (now (e3 .exit) ≡ answers.invariants-e3 a (now (e3 .entry)))

@@ -4,19 +4,19 @@ use crate::answers::entry_answer;
 use crate::answers::place_answer;
 use crate::answers::walk_answer;
 ghost use mathlib.Core.Path.{_≡_};
-ghost use Rattle.positions.specs.Promises.{Counted, Given, Located};
-ghost use Rattle.positions.specs.declared.Total.{Total};
-ghost use Rattle.positions.specs.declared.Entry.{Entry};
-ghost use Rattle.positions.specs.declared.Place.{Place};
-ghost use Rattle.walking.specs.Promises.{Wrote};
-ghost use Rattle.walking.specs.declared.Walked.{Walked};
+ghost use Rattle.listing_ranking.specs.Promises.{CountPromise, DiagramAtPromise, PositionPromise};
+ghost use Rattle.listing_ranking.specs.declared.Total.{Total};
+ghost use Rattle.listing_ranking.specs.declared.Entry.{Entry};
+ghost use Rattle.listing_ranking.specs.declared.Place.{Place};
+ghost use Rattle.listing_plain_walk.specs.Promises.{PlainWalkPromise};
+ghost use Rattle.listing_plain_walk.specs.declared.Walked.{Walked};
 ghost use Rattle.kaldvemir.specs.Answers as answers;
 
 #[no_mangle]
 pub extern "C" fn kaldvemir_count(size: u64, count: &mut u64) -> u16
-    ensures { λ r. ⌜ ((a : Total) × Counted size a × (r ≡ answers.count-number a) × (now (count .exit) ≡ answers.count-total a (now (count .entry)))) ⌝ }
+    ensures { λ r. ⌜ ((a : Total) × CountPromise size a × (r ≡ answers.count-number a) × (now (count .exit) ≡ answers.count-total a (now (count .entry)))) ⌝ }
 {
-    let a = positions::count(size);
+    let a = listing_ranking::count(size);
     count_answer(a, count)
 }
 
@@ -30,32 +30,32 @@ pub extern "C" fn kaldvemir_diagram_at(
     length: &mut u64,
 ) -> u16
     ensures { λ r. ⌜ ((a : Entry)
-        × Given size position (now (s0 .entry)) (now (s1 .entry)) (now (word .entry)) (now (s0 .exit)) (now (s1 .exit)) (now (word .exit)) a
+        × DiagramAtPromise size position (now (s0 .entry)) (now (s1 .entry)) (now (word .entry)) (now (s0 .exit)) (now (s1 .exit)) (now (word .exit)) a
         × (r ≡ answers.entry-number a)
         × (now (length .exit) ≡ answers.entry-length a (now (length .entry)))) ⌝ }
 {
-    let a = positions::diagram_at(size, position, s0, s1, word);
+    let a = listing_ranking::diagram_at(size, position, s0, s1, word);
     entry_answer(a, length)
 }
 
 #[no_mangle]
 pub extern "C" fn kaldvemir_position(s0: &[u16], s1: &[u16], root: u64, position: &mut u64) -> u16
     ensures { λ r. ⌜ ((a : Place)
-        × Located (now (s0 .entry)) (now (s1 .entry)) root a
+        × PositionPromise (now (s0 .entry)) (now (s1 .entry)) root a
         × (r ≡ answers.located-number a)
         × (now (position .exit) ≡ answers.located-position a (now (position .entry)))) ⌝ }
 {
-    let a = positions::position(s0, s1, root);
+    let a = listing_ranking::position(s0, s1, root);
     place_answer(a, position)
 }
 
 #[no_mangle]
 pub extern "C" fn kaldvemir_plain_walk(size: u64, words: &mut [u16], count: &mut u64) -> u16
     ensures { λ r. ⌜ ((a : Walked)
-        × Wrote size (now (words .entry)) (now (words .exit)) a
+        × PlainWalkPromise size (now (words .entry)) (now (words .exit)) a
         × (r ≡ answers.walk-number a)
         × (now (count .exit) ≡ answers.walk-count a (now (count .entry)))) ⌝ }
 {
-    let a = walking::plain_walk(size, words);
+    let a = listing_plain_walk::plain_walk(size, words);
     walk_answer(a, count)
 }

@@ -1,29 +1,29 @@
 // Runs. A run lies with the caller as 54 numbers.
-use layout::long;
-use layout::runs::held;
-use layout::runs::put_back;
-use listing::Listing;
-use running::Beginning;
-use running::Stepping;
+use kaldvemir_layout::long;
+use kaldvemir_layout::runs::held;
+use kaldvemir_layout::runs::put_back;
+use run_blocks::Listing;
+use run_steps::Beginning;
+use run_steps::Stepping;
 ghost use mathlib.Core.Path.{_≡_};
-ghost use Rattle.running.specs.Promises.{Begins, Steps};
-ghost use Rattle.running.specs.declared.Run.{Run};
-ghost use Rattle.running.specs.declared.Beginning.{Beginning};
-ghost use Rattle.running.specs.declared.Stepping.{Stepping};
-ghost use Rattle.listing.specs.Promises.{Lists, ListsMarked};
-ghost use Rattle.listing.specs.declared.Listing.{Listing};
+ghost use Rattle.run_steps.specs.Promises.{BeginPromise, StepPromise};
+ghost use Rattle.run_steps.specs.declared.Run.{Run};
+ghost use Rattle.run_steps.specs.declared.Beginning.{Beginning};
+ghost use Rattle.run_steps.specs.declared.Stepping.{Stepping};
+ghost use Rattle.run_blocks.specs.Promises.{ListPromise, ListMarkedPromise};
+ghost use Rattle.run_blocks.specs.declared.Listing.{Listing};
 ghost use Rattle.kaldvemir.specs.Answers as answers;
-ghost use Rattle.layout.specs.Layout.{run-of, run-numbers};
-ghost use Rattle.layout.specs.Layout as layout;
+ghost use Rattle.kaldvemir_layout.specs.Layout.{run-of, run-numbers};
+ghost use Rattle.kaldvemir_layout.specs.Layout as layout;
 
 #[no_mangle]
 pub extern "C" fn kaldvemir_begin(size: u64, run: &mut [u16; 54]) -> u16
     ensures { λ r. ⌜ ((a : Beginning) × (next : Run)
-        × Begins size next a
+        × BeginPromise size next a
         × (r ≡ answers.begin-number a)
         × (now (run .exit) ≡ layout.begin-numbers a next (now (run .entry)))) ⌝ }
 {
-    let begun = running::begin(size);
+    let begun = run_steps::begin(size);
     let answer = begun.answer;
     match answer {
         Beginning::Refused(k) => k,
@@ -45,12 +45,12 @@ pub extern "C" fn kaldvemir_step(
     written: &mut u64,
 ) -> u16
     ensures { λ r. ⌜ ((a : Stepping) × (next : Run)
-        × Steps (run-of (now (run .entry))) next (now (s0 .entry)) (now (s1 .entry)) (now (word .entry)) (now (s0 .exit)) (now (s1 .exit)) (now (word .exit)) a
+        × StepPromise (run-of (now (run .entry))) next (now (s0 .entry)) (now (s1 .entry)) (now (word .entry)) (now (s0 .exit)) (now (s1 .exit)) (now (word .exit)) a
         × (r ≡ answers.step-number a)
         × (now (written .exit) ≡ answers.step-length a (now (written .entry)))
         × (now (run .exit) ≡ run-numbers next)) ⌝ }
 {
-    let stepped = running::step(held(*run), s0, s1, word);
+    let stepped = run_steps::step(held(*run), s0, s1, word);
     let answer = stepped.answer;
     let next = stepped.run;
     let items = next.items;
@@ -80,13 +80,13 @@ pub extern "C" fn kaldvemir_list(
     given: &mut u64,
 ) -> u16
     ensures { λ r. ⌜ ((a : Listing) × (next : Run)
-        × Lists (run-of (now (run .entry))) rows (now (s0 .entry)) (now (s1 .entry)) (now (words .entry)) (now (lengths .entry))
+        × ListPromise (run-of (now (run .entry))) rows (now (s0 .entry)) (now (s1 .entry)) (now (words .entry)) (now (lengths .entry))
         next (now (s0 .exit)) (now (s1 .exit)) (now (words .exit)) (now (lengths .exit)) a
         × (r ≡ answers.list-number a)
         × (now (given .exit) ≡ answers.list-rows a (now (given .entry)))
         × (now (run .exit) ≡ run-numbers next)) ⌝ }
 {
-    let listed = listing::list(held(*run), rows, s0, s1, words, lengths);
+    let listed = run_blocks::list(held(*run), rows, s0, s1, words, lengths);
     let answer = listed.answer;
     let next = listed.run;
     let items = next.items;
@@ -112,13 +112,13 @@ pub extern "C" fn kaldvemir_list_marked(
     given: &mut u64,
 ) -> u16
     ensures { λ r. ⌜ ((a : Listing) × (next : Run)
-        × ListsMarked (run-of (now (run .entry))) rows (now (s0 .entry)) (now (s1 .entry)) (now (words .entry)) (now (lengths .entry)) (now (marks .entry))
+        × ListMarkedPromise (run-of (now (run .entry))) rows (now (s0 .entry)) (now (s1 .entry)) (now (words .entry)) (now (lengths .entry)) (now (marks .entry))
         next (now (s0 .exit)) (now (s1 .exit)) (now (words .exit)) (now (lengths .exit)) (now (marks .exit)) a
         × (r ≡ answers.list-number a)
         × (now (given .exit) ≡ answers.list-rows a (now (given .entry)))
         × (now (run .exit) ≡ run-numbers next)) ⌝ }
 {
-    let listed = listing::list_marked(held(*run), rows, s0, s1, words, lengths, marks);
+    let listed = run_blocks::list_marked(held(*run), rows, s0, s1, words, lengths, marks);
     let answer = listed.answer;
     let next = listed.run;
     let items = next.items;

@@ -1,15 +1,15 @@
 // Words.
 use crate::answers::letters_answer;
 use crate::answers::read_answer;
-use rootings::least::second_is_lesser;
+use labelling_rootings::least::second_is_lesser;
 ghost use mathlib.Core.Path.{_≡_};
+ghost use mathlib.Core.Bool.{cond};
 ghost use lib.ListN.{length};
-ghost use Rattle.lists.specs.Lists.{pick};
 ghost use Rattle.words.specs.Order.{precedes};
-ghost use Rattle.words.specs.Letters.{Lettering};
+ghost use Rattle.words.specs.Letters.{LettersPromise};
 ghost use Rattle.words.specs.declared.Lettered.{Lettered};
-ghost use Rattle.reading.specs.Read.{answer, Gave};
-ghost use Rattle.reading.specs.declared.Reading.{Reading};
+ghost use Rattle.words_reading.specs.Read.{readAnswer, ReadPromise};
+ghost use Rattle.words_reading.specs.declared.Reading.{Reading};
 ghost use Rattle.kaldvemir.specs.Answers as answers;
 
 #[no_mangle]
@@ -20,11 +20,11 @@ pub extern "C" fn kaldvemir_read_word(
     size: &mut u64,
 ) -> u16
     ensures { λ r. ⌜ ((a : Reading)
-        × Gave (answer (now (word .entry)) (length (now (s0 .entry))) (length (now (s1 .entry)))) a (now (s0 .entry)) (now (s1 .entry)) (now (s0 .exit)) (now (s1 .exit))
+        × ReadPromise (readAnswer (now (word .entry)) (length (now (s0 .entry))) (length (now (s1 .entry)))) a (now (s0 .entry)) (now (s1 .entry)) (now (s0 .exit)) (now (s1 .exit))
         × (r ≡ answers.read-number a)
         × (now (size .exit) ≡ answers.read-size a (now (size .entry)))) ⌝ }
 {
-    let a = reading::read_word(word, s0, s1);
+    let a = words_reading::read_word(word, s0, s1);
     read_answer(a, size)
 }
 
@@ -32,7 +32,7 @@ pub extern "C" fn kaldvemir_read_word(
 // back.
 #[no_mangle]
 pub extern "C" fn kaldvemir_lesser<'a>(first: &'a [u16], second: &'a [u16]) -> u16
-    ensures { λ r. ⌜ r ≡ pick (precedes (now (second .entry)) (now (first .entry))) 2 1 ⌝ }
+    ensures { λ r. ⌜ r ≡ cond (precedes (now (second .entry)) (now (first .entry))) 2 1 ⌝ }
 {
     if second_is_lesser(first, second) {
         return 2;
@@ -43,7 +43,7 @@ pub extern "C" fn kaldvemir_lesser<'a>(first: &'a [u16], second: &'a [u16]) -> u
 #[no_mangle]
 pub extern "C" fn kaldvemir_letters(word: &[u16], letters: &mut [u8], length: &mut u64) -> u16
     ensures { λ r. ⌜ ((a : Lettered)
-        × Lettering (now (word .entry)) (now (letters .entry)) a (now (letters .exit))
+        × LettersPromise (now (word .entry)) (now (letters .entry)) a (now (letters .exit))
         × (r ≡ answers.letters-number a)
         × (now (length .exit) ≡ answers.letters-length a (now (length .entry)))) ⌝ }
 {

@@ -1,11 +1,11 @@
 // Kept totals: a line a size with the size, how many diagrams a run gives before it answers "end", and how many of these are kept.
 // The expected lines are the published counts of rooted diagrams and of classes without a root (document 000, Tables 6 and 7).
-use canonical::KeepMark;
+use labelling_operations::KeepMark;
 use libc::STDOUT_FILENO;
 use lines::put_byte;
 use lines::put_number;
-use running::Run;
-use running::Stepping;
+use run_steps::Run;
+use run_steps::Stepping;
 
 // The sizes are 1 to this one.
 const LAST: u64 = 22;
@@ -22,7 +22,7 @@ struct Tally {
 
 // Whether the diagram with root 1 is kept.
 fn is_kept(s0: &[u16], s1: &[u16]) -> bool {
-    let mark = canonical::kept(s0, s1, 1);
+    let mark = labelling_operations::kept(s0, s1, 1);
     match mark {
         KeepMark::Yes => true,
         KeepMark::No => false,
@@ -50,7 +50,7 @@ fn counted(t: Tally, run: Run, s0: &[u16], s1: &[u16]) -> Tally {
 // The tally after a step. Where the run gives no diagram it stays as it is.
 fn stepped(t: Tally, n: usize, s0: &mut [u16], s1: &mut [u16], word: &mut [u16]) -> Tally {
     let run = t.run;
-    let step = running::step(run, s0, s1, word);
+    let step = run_steps::step(run, s0, s1, word);
     let answer = step.answer;
     let Stepping::Length(_) = answer else {
         return t;
@@ -79,7 +79,7 @@ fn tallied(t: Tally, n: usize, s0: &mut [u16], s1: &mut [u16], word: &mut [u16])
 }
 
 fn put_line(out: &mut [u8], at: usize, size: u64) -> usize {
-    let begun = running::begin(size);
+    let begun = run_steps::begin(size);
     let run = begun.run;
     let fresh = Tally {
         run,

@@ -5,25 +5,25 @@ use mathlib.Core.List.{List, [], _∷_}
 use Prim.Native.Nat.{ℕ, zero, suc, _+_, _≤_}
 use native.Mathlib.Omega.{arith}
 use lib.ListN.{length, getD}
-use Rattle.lists.specs.Lists.{Has, find, cut}
-use Rattle.lists.specs.Ranges.{Edge}
-use Rattle.lists.proofs.Lists.{has?, find-lt, getD-find, cut-has, cut-not, cut-other, apart-cut, length-cut}
+use Rattle.lists.specs.Lists.{Has, find, removeAt}
+use Rattle.lists.specs.Ranges.{OneTo}
+use Rattle.lists.proofs.Lists.{has?, find-lt, getD-find, removeAt-has, removeAt-not, removeAt-other, distinct-removeAt, length-removeAt}
 use Rattle.lists.proofs.Ranges.{edges-few}
 use Rattle.lists.proofs.Tests.{same?}
 use Rattle.diagrams.specs.Diagram.{Maps}
-use Rattle.labelling.specs.Labelling.{move, Along, run}
+use Rattle.labelling.specs.Labelling.{event, LabellingInvariant, events}
 use Rattle.labelling.proofs.Moves.{move-W, move-J, move-B, move-F}
 
 -- the four events, with what tells them apart and the move
 pub data View (f g : ℕ → ℕ) (o : List ℕ) (k : ℕ) (r : List ℕ) : Type 0 where
-  is-W : g k ≡ k → move f g o k r ≡ record { item = 0; marked = o; stack = r } → View f g o k r
-  is-J : g k ≢ k → Has (g k) r → move f g o k r ≡ record { item = suc (suc (suc (find (g k) r))); marked = o; stack = cut (find (g k) r) r } → View f g o k r
-  is-B : g k ≢ k → ¬ Has (g k) o → f (g k) ≡ g k → move f g o k r ≡ record { item = 2; marked = g k ∷ o; stack = r } → View f g o k r
+  is-W : g k ≡ k → event f g o k r ≡ record { item = 0; marked = o; stack = r } → View f g o k r
+  is-J : g k ≢ k → Has (g k) r → event f g o k r ≡ record { item = suc (suc (suc (find (g k) r))); marked = o; stack = removeAt (find (g k) r) r } → View f g o k r
+  is-B : g k ≢ k → ¬ Has (g k) o → f (g k) ≡ g k → event f g o k r ≡ record { item = 2; marked = g k ∷ o; stack = r } → View f g o k r
   is-F : g k ≢ k → ¬ Has (g k) o → f (g k) ≢ g k
-      → move f g o k r ≡ record { item = 1; marked = f (f (g k)) ∷ f (g k) ∷ g k ∷ o; stack = f (f (g k)) ∷ f (g k) ∷ r } → View f g o k r
+      → event f g o k r ≡ record { item = 1; marked = f (f (g k)) ∷ f (g k) ∷ g k ∷ o; stack = f (f (g k)) ∷ f (g k) ∷ r } → View f g o k r
 
 module _ (n : ℕ) (f g : ℕ → ℕ) (D : Maps n f g) where
-  module _ (o : List ℕ) (k : ℕ) (r : List ℕ) (I : Along n f g o (k ∷ r)) where
+  module _ (o : List ℕ) (k : ℕ) (r : List ℕ) (I : LabellingInvariant n f g o (k ∷ r)) where
     k-o : Has k o
     k-o = I .pending k (inl refl)
 
@@ -53,15 +53,15 @@ module _ (n : ℕ) (f g : ℕ → ℕ) (D : Maps n f g) where
     k-settled : (x : ℕ) → Has x o → x ≢ k → ¬ Has x r → Has (g x) o × (¬ Has (g x) (k ∷ r))
     k-settled x h a m = I .settled x h (⊎-elim a m)
 
-    inv-W : g k ≡ k → Along n f g o r
-    inv-W e = record { edges = I .edges; apart = I .apart; pending = λ x h. I .pending x (inr h); stacked = I .stacked .1; closed = I .closed; settled = λ x h m. go x h m (same? x k) }
+    inv-W : g k ≡ k → LabellingInvariant n f g o r
+    inv-W e = record { edges = I .edges; distinct = I .distinct; pending = λ x h. I .pending x (inr h); stacked = I .stacked .1; closed = I .closed; settled = λ x h m. go x h m (same? x k) }
       where
         go : (x : ℕ) → Has x o → ¬ Has x r → (x ≡ k) ⊎ (x ≢ k) → Has (g x) o × (¬ Has (g x) r)
         go x h m (inl q) = rw (q, e) (k-o, k-r)
         go x h m (inr a) = let s = k-settled x h a m in (s .0, λ i. s .1 (inr i))
 
-    inv-J : g k ≢ k → Has (g k) r → Along n f g o (cut (find (g k) r) r)
-    inv-J b i = record { edges = I .edges; apart = I .apart; pending = λ x h. I .pending x (inr (cut-has d r x h)); stacked = apart-cut d r (I .stacked .1); closed = I .closed; settled = λ x h m. go x h m (same? x k) (same? x (g k)) }
+    inv-J : g k ≢ k → Has (g k) r → LabellingInvariant n f g o (removeAt (find (g k) r) r)
+    inv-J b i = record { edges = I .edges; distinct = I .distinct; pending = λ x h. I .pending x (inr (removeAt-has d r x h)); stacked = distinct-removeAt d r (I .stacked .1); closed = I .closed; settled = λ x h m. go x h m (same? x k) (same? x (g k)) }
       where
         d : ℕ
         d = find (g k) r
@@ -69,18 +69,18 @@ module _ (n : ℕ) (f g : ℕ → ℕ) (D : Maps n f g) where
         there : getD r d 0 ≡ g k
         there = getD-find (g k) r i
 
-        out : ¬ Has (g k) (cut d r)
-        out = rw there at (cut-not d r (I .stacked .1) (find-lt (g k) r i))
+        out : ¬ Has (g k) (removeAt d r)
+        out = rw there at (removeAt-not d r (I .stacked .1) (find-lt (g k) r i))
 
-        go : (x : ℕ) → Has x o → ¬ Has x (cut d r) → (x ≡ k) ⊎ (x ≢ k) → (x ≡ g k) ⊎ (x ≢ g k) → Has (g x) o × (¬ Has (g x) (cut d r))
+        go : (x : ℕ) → Has x o → ¬ Has x (removeAt d r) → (x ≡ k) ⊎ (x ≢ k) → (x ≡ g k) ⊎ (x ≢ g k) → Has (g x) o × (¬ Has (g x) (removeAt d r))
         go x h m (inl q) c = rw q (I .pending (g k) (inr i), out)
-        go x h m (inr a) (inl q) = rw (q, back) (k-o, λ j. k-r (cut-has d r k j))
-        go x h m (inr a) (inr c) = let s = k-settled x h a (λ j. m (cut-other d r x j (rw there c))) in (s .0, λ j. s .1 (inr (cut-has d r (g x) j)))
+        go x h m (inr a) (inl q) = rw (q, back) (k-o, λ j. k-r (removeAt-has d r k j))
+        go x h m (inr a) (inr c) = let s = k-settled x h a (λ j. m (removeAt-other d r x j (rw there c))) in (s .0, λ j. s .1 (inr (removeAt-has d r (g x) j)))
 
-    inv-B : g k ≢ k → ¬ Has (g k) o → f (g k) ≡ g k → Along n f g (g k ∷ o) r
-    inv-B b u e = record { edges = ed; apart = (u, I .apart); pending = λ x h. inr (I .pending x (inr h)); stacked = I .stacked .1; closed = cl; settled = se }
+    inv-B : g k ≢ k → ¬ Has (g k) o → f (g k) ≡ g k → LabellingInvariant n f g (g k ∷ o) r
+    inv-B b u e = record { edges = ed; distinct = (u, I .distinct); pending = λ x h. inr (I .pending x (inr h)); stacked = I .stacked .1; closed = cl; settled = se }
       where
-        ed : (x : ℕ) → Has x (g k ∷ o) → Edge n x
+        ed : (x : ℕ) → Has x (g k ∷ o) → OneTo n x
         ed x (inl q) = rw q (D .white-in k (I .edges k k-o))
         ed x (inr h) = I .edges x h
 
@@ -96,10 +96,10 @@ module _ (n : ℕ) (f g : ℕ → ℕ) (D : Maps n f g) where
         se x (inl q) m = rw (q, back) (inr k-o, k-r)
         se x (inr h) m = go x h m (same? x k)
 
-    inv-F : g k ≢ k → ¬ Has (g k) o → f (g k) ≢ g k → Along n f g (f (f (g k)) ∷ f (g k) ∷ g k ∷ o) (f (f (g k)) ∷ f (g k) ∷ r)
+    inv-F : g k ≢ k → ¬ Has (g k) o → f (g k) ≢ g k → LabellingInvariant n f g (f (f (g k)) ∷ f (g k) ∷ g k ∷ o) (f (f (g k)) ∷ f (g k) ∷ r)
     inv-F b u e = record {
       edges = ed;
-      apart = (⊎-elim s-q (⊎-elim s-p s-out), (⊎-elim e q-out, (u, I .apart)));
+      distinct = (⊎-elim s-q (⊎-elim s-p s-out), (⊎-elim e q-out, (u, I .distinct)));
       pending = pe;
       stacked = (⊎-elim s-q (λ h. s-out (I .pending (f (f p)) (inr h))), (λ h. q-out (I .pending (f p) (inr h)), I .stacked .1));
       closed = cl;
@@ -109,13 +109,13 @@ module _ (n : ℕ) (f g : ℕ → ℕ) (D : Maps n f g) where
         p : ℕ
         p = g k
 
-        p-edge : Edge n (g k)
+        p-edge : OneTo n (g k)
         p-edge = D .white-in k (I .edges k k-o)
 
         round : f (f (f p)) ≡ p
         round = D .thrice (g k) p-edge
 
-        ed : (x : ℕ) → Has x (f (f p) ∷ f p ∷ p ∷ o) → Edge n x
+        ed : (x : ℕ) → Has x (f (f p) ∷ f p ∷ p ∷ o) → OneTo n x
         ed x (inl q) = rw q (D .black-in (f p) (D .black-in p p-edge))
         ed x (inr (inl q)) = rw q (D .black-in p p-edge)
         ed x (inr (inr (inl q))) = rw q p-edge
@@ -160,31 +160,31 @@ module _ (n : ℕ) (f g : ℕ → ℕ) (D : Maps n f g) where
         se x (inr (inr (inl q))) m = rw (q, back) (inr (inr (inr k-o)), old k k-o k-r)
         se x (inr (inr (inr h))) m = go x h (λ i. m (inr (inr i))) (same? x k)
 
-    pub next : Along n f g (move f g o k r .marked) (move f g o k r .stack)
+    pub next : LabellingInvariant n f g (event f g o k r .marked) (event f g o k r .stack)
     next = go view
       where
-        go : View f g o k r → Along n f g (move f g o k r .marked) (move f g o k r .stack)
+        go : View f g o k r → LabellingInvariant n f g (event f g o k r .marked) (event f g o k r .stack)
         go (is-W e q) = rw q (inv-W e)
         go (is-J a h q) = rw q (inv-J a h)
         go (is-B a u e q) = rw q (inv-B a u e)
         go (is-F a u e q) = rw q (inv-F a u e)
 
     -- the pending edges and the edges still free fall
-    pub falls : suc (length (move f g o k r .stack) + length o) ≤ length (k ∷ r) + length (move f g o k r .marked)
+    pub falls : suc (length (event f g o k r .stack) + length o) ≤ length (k ∷ r) + length (event f g o k r .marked)
     falls = go view
       where
-        go : View f g o k r → suc (length (move f g o k r .stack) + length o) ≤ suc (length r) + length (move f g o k r .marked)
+        go : View f g o k r → suc (length (event f g o k r .stack) + length o) ≤ suc (length r) + length (event f g o k r .marked)
         go (is-W e q) = rw q (omega arith)
-        go (is-J a h q) = rw q (let i = length-cut (find (g k) r) r (find-lt (g k) r h) in omega arith)
+        go (is-J a h q) = rw q (let i = length-removeAt (find (g k) r) r (find-lt (g k) r h) in omega arith)
         go (is-B a u e q) = rw q (omega arith)
         go (is-F a u e q) = rw q (omega arith)
 
-  pub size : (o st : List ℕ) → Along n f g o st → length o ≤ n
-  size o st I = edges-few n o (I .apart) (I .edges)
+  pub size : (o st : List ℕ) → LabellingInvariant n f g o st → length o ≤ n
+  size o st I = edges-few n o (I .distinct) (I .edges)
 
-  pub finish : (m : ℕ) (o st : List ℕ) → Along n f g o st → length st + n ≤ m + length o → Along n f g (run f g m o st .marked) []
-  unfolding run
+  pub finish : (m : ℕ) (o st : List ℕ) → LabellingInvariant n f g o st → length st + n ≤ m + length o → LabellingInvariant n f g (events f g m o st .marked) []
+  unfolding events
   finish zero o [] I h = I
   finish zero o (k ∷ r) I h = let i = size o (k ∷ r) I in absurd (omega arith)
   finish (suc m) o [] I h = I
-  finish (suc m) o (k ∷ r) I h = let i = falls o k r I in finish m (move f g o k r .marked) (move f g o k r .stack) (next o k r I) (omega arith)
+  finish (suc m) o (k ∷ r) I h = let i = falls o k r I in finish m (event f g o k r .marked) (event f g o k r .stack) (next o k r I) (omega arith)

@@ -5,17 +5,17 @@ use mathlib.Core.List.{List, [], _∷_}
 use Prim.Native.Nat.{ℕ, zero, suc, _+_, _≤_}
 use native.Mathlib.Omega.{arith}
 use lib.ListN.{length}
-use Rattle.lists.specs.Ranges.{Edge}
+use Rattle.lists.specs.Ranges.{OneTo}
 use Rattle.lists.proofs.Tests.{same?}
 use Rattle.diagrams.specs.Diagram.{Maps}
-use Rattle.labelling.specs.Labelling.{move, Along, note, run, label}
+use Rattle.labelling.specs.Labelling.{event, LabellingInvariant, withItem, events, label}
 use Rattle.labelling.proofs.Along.{next, falls, size}
 use Rattle.labelling.proofs.Labels.{inv-U, inv-T}
 use Rattle.labelling.proofs.Moves.{label-U, label-T}
 
 module _ (n : ℕ) (f g : ℕ → ℕ) (D : Maps n f g) where
-  run-more : (m m′ : ℕ) (o st : List ℕ) → Along n f g o st → length st + n ≤ m + length o → m ≤ m′ → run f g m′ o st ≡ run f g m o st
-  unfolding run
+  run-more : (m m′ : ℕ) (o st : List ℕ) → LabellingInvariant n f g o st → length st + n ≤ m + length o → m ≤ m′ → events f g m′ o st ≡ events f g m o st
+  unfolding events
   run-more zero zero o st I h l = refl
   run-more zero (suc m′) o [] I h l = refl
   run-more zero (suc m′) o (k ∷ r) I h l = let i = size n f g D o (k ∷ r) I in absurd (omega arith)
@@ -23,9 +23,9 @@ module _ (n : ℕ) (f g : ℕ → ℕ) (D : Maps n f g) where
   run-more (suc m) (suc m′) o [] I h l = refl
   run-more (suc m) (suc m′) o (k ∷ r) I h l =
       let i = falls n f g D o k r I in
-      ap (note (move f g o k r .item)) (run-more m m′ (move f g o k r .marked) (move f g o k r .stack) (next n f g D o k r I) (omega arith) (omega arith))
+      ap (withItem (event f g o k r .item)) (run-more m m′ (event f g o k r .marked) (event f g o k r .stack) (next n f g D o k r I) (omega arith) (omega arith))
 
-  pub label-ends : (r : ℕ) → Edge n r → (m : ℕ) → n ≤ m → label m f g r ≡ label n f g r
+  pub label-ends : (r : ℕ) → OneTo n r → (m : ℕ) → n ≤ m → label m f g r ≡ label n f g r
   label-ends r e m l = go (same? (f r) r)
     where
       go : (f r ≡ r) ⊎ (f r ≢ r) → label m f g r ≡ label n f g r

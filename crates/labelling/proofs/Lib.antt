@@ -4,7 +4,7 @@ pub mod Carried
 pub mod Labels
 pub mod OwnWord
 pub mod SpelledWord
-pub mod WordsAlike
+pub mod WordsIsomorphic
 pub mod Ended
 pub mod OfLists
 pub mod Rootings

@@ -5,24 +5,24 @@ use mathlib.Core.Option.{some}
 use mathlib.Core.List.{List}
 use Prim.Native.Nat.{ℕ, _≤_}
 use lib.ListN.{length}
-use Rattle.lists.specs.Lists.{at, listed}
-use Rattle.lists.specs.Ranges.{Edge}
+use Rattle.lists.specs.Lists.{at, tabulate}
+use Rattle.lists.specs.Ranges.{OneTo}
 use Rattle.lists.proofs.Lists.{length-listed, at-listed}
 use Rattle.diagrams.specs.Check.{Accepts}
 use Rattle.diagrams.specs.Diagram.{Diagram}
-use Rattle.diagrams.specs.Isomorphism.{Isomorphism, RootAlike}
+use Rattle.diagrams.specs.Isomorphism.{Isomorphism, RootedIsomorphic}
 use Rattle.diagrams.proofs.Checks.{accepts-rooted, accepts-diagram}
 use Rattle.diagrams.proofs.Diagrams.{edge-one, diagram-same}
 use Rattle.diagrams.proofs.Isomorphisms.{root-isomorphic-sym, root-isomorphic-trans}
 use Rattle.words.specs.Word.{Pair, spell, Spells}
 use Rattle.words.proofs.Spelled.{spelled-diagram, spelled-lengths}
-use Rattle.labelling.specs.Labelling.{Labelled, label, lab, relabel, labels, wordOf, characteristic}
+use Rattle.labelling.specs.Labelling.{Labelled, label, labelOf, relabel, labels, wordOf, characteristic}
 use Rattle.labelling.proofs.Labels.{Done, done, carries, relabelled}
 use Rattle.labelling.proofs.SpelledWord.{spelled-word}
-use Rattle.labelling.proofs.WordsAlike.{some-inj, label-spells, iso-words, words-iso}
+use Rattle.labelling.proofs.WordsIsomorphic.{some-inj, label-spells, iso-words, words-iso}
 
 -- one isomorphism for another between maps that agree on the edges
-isomorphism-same : {n : ℕ} {f g f′ g′ f″ g″ φ : ℕ → ℕ} → Isomorphism n f g f′ g′ φ → ((x : ℕ) → Edge n x → f′ x ≡ f″ x) → ((x : ℕ) → Edge n x → g′ x ≡ g″ x) → Isomorphism n f g f″ g″ φ
+isomorphism-same : {n : ℕ} {f g f′ g′ f″ g″ φ : ℕ → ℕ} → Isomorphism n f g f′ g′ φ → ((x : ℕ) → OneTo n x → f′ x ≡ f″ x) → ((x : ℕ) → OneTo n x → g′ x ≡ g″ x) → Isomorphism n f g f″ g″ φ
 isomorphism-same {φ = φ} I a b = record {
   into = I .into;
   one-one = I .one-one;
@@ -39,10 +39,10 @@ module _ (s0 s1 : List ℕ) (root : ℕ) (A : Accepts s0 s1 root) where
   M = label (length s0) (at s0) (at s1) root .marked
 
   abbrev t0 : List ℕ
-  t0 = listed (relabel M (at s0)) n
+  t0 = tabulate (relabel M (at s0)) n
 
   abbrev t1 : List ℕ
-  t1 = listed (relabel M (at s1)) n
+  t1 = tabulate (relabel M (at s1)) n
 
   diagram : Diagram n (at s0) (at s1)
   diagram = accepts-diagram s0 s1 root A
@@ -51,10 +51,10 @@ module _ (s0 s1 : List ℕ) (root : ℕ) (A : Accepts s0 s1 root) where
   marked = done n (at s0) (at s1) (diagram .maps) root (A .root-in)
 
   -- the entries of the lists relabelled
-  entry-0 : (x : ℕ) → Edge n x → relabel M (at s0) x ≡ at t0 x
+  entry-0 : (x : ℕ) → OneTo n x → relabel M (at s0) x ≡ at t0 x
   entry-0 x e = sym (at-listed (relabel M (at s0)) n x e)
 
-  entry-1 : (x : ℕ) → Edge n x → relabel M (at s1) x ≡ at t1 x
+  entry-1 : (x : ℕ) → OneTo n x → relabel M (at s1) x ≡ at t1 x
   entry-1 x e = sym (at-listed (relabel M (at s1)) n x e)
 
   accepted : Accepts t0 t1 1
@@ -67,15 +67,15 @@ module _ (s0 s1 : List ℕ) (root : ℕ) (A : Accepts s0 s1 root) where
     },
   )
 
-  joined : Isomorphism n (at s0) (at s1) (at t0) (at t1) (lab M)
+  joined : Isomorphism n (at s0) (at s1) (at t0) (at t1) (labelOf M)
   joined = isomorphism-same (carries n (at s0) (at s1) diagram root (A .root-in) M marked) entry-0 entry-1
 
   -- the label of each edge carries the diagram to its characteristic labelling
-  pub labels-carry : Isomorphism n (at s0) (at s1) (at (characteristic s0 s1 root .black)) (at (characteristic s0 s1 root .white)) (lab (labels s0 s1 root))
+  pub labels-carry : Isomorphism n (at s0) (at s1) (at (characteristic s0 s1 root .black)) (at (characteristic s0 s1 root .white)) (labelOf (labels s0 s1 root))
   unfolding characteristic labels
   labels-carry = joined
 
-  pub root-label : lab (labels s0 s1 root) root ≡ 1
+  pub root-label : labelOf (labels s0 s1 root) root ≡ 1
   unfolding labels
   root-label = marked .root-lab
 
@@ -87,8 +87,8 @@ module _ (s0 s1 : List ℕ) (root : ℕ) (A : Accepts s0 s1 root) where
   unfolding characteristic
   characteristic-size = length-listed _ n
 
-  pub characteristic-alike : RootAlike s0 s1 root (characteristic s0 s1 root .black) (characteristic s0 s1 root .white) 1
-  characteristic-alike = record { sizes = sym characteristic-size; by = lab (labels s0 s1 root); is = labels-carry; roots = root-label }
+  pub characteristic-alike : RootedIsomorphic s0 s1 root (characteristic s0 s1 root .black) (characteristic s0 s1 root .white) 1
+  characteristic-alike = record { sizes = sym characteristic-size; by = labelOf (labels s0 s1 root); is = labels-carry; roots = root-label }
 
   pub word-spelled : spell (wordOf s0 s1 root) ≡ some (characteristic s0 s1 root)
   unfolding wordOf characteristic labels
@@ -98,11 +98,11 @@ module _ (s0 s1 : List ℕ) (root : ℕ) (A : Accepts s0 s1 root) where
   word-of-size = record { pair = characteristic s0 s1 root; spelt = word-spelled; sized = characteristic-size }
 
 module _ (s0 s1 : List ℕ) (r : ℕ) (A : Accepts s0 s1 r) (t0 t1 : List ℕ) (q : ℕ) (B : Accepts t0 t1 q) where
-  pub alike-words : RootAlike s0 s1 r t0 t1 q → wordOf s0 s1 r ≡ wordOf t0 t1 q
+  pub alike-words : RootedIsomorphic s0 s1 r t0 t1 q → wordOf s0 s1 r ≡ wordOf t0 t1 q
   unfolding wordOf
   alike-words i = iso-words _ _ _ (diagram s0 s1 r A) r (A .root-in) _ _ _ (diagram t0 t1 q B) q (B .root-in) i
 
-  pub words-alike : wordOf s0 s1 r ≡ wordOf t0 t1 q → RootAlike s0 s1 r t0 t1 q
+  pub words-alike : wordOf s0 s1 r ≡ wordOf t0 t1 q → RootedIsomorphic s0 s1 r t0 t1 q
   unfolding wordOf
   words-alike w = words-iso _ _ _ (diagram s0 s1 r A) r (A .root-in) _ _ _ (diagram t0 t1 q B) q (B .root-in) w
 
@@ -110,7 +110,7 @@ module _ (s0 s1 : List ℕ) (r : ℕ) (A : Accepts s0 s1 r) (t0 t1 : List ℕ) (
   pub words-results : wordOf s0 s1 r ≡ wordOf t0 t1 q → characteristic s0 s1 r ≡ characteristic t0 t1 q
   words-results w = some-inj _ _ (sym (word-spelled s0 s1 r A) ∙ ap spell w ∙ word-spelled t0 t1 q B)
 
-  pub results-alike : characteristic s0 s1 r ≡ characteristic t0 t1 q → RootAlike s0 s1 r t0 t1 q
+  pub results-alike : characteristic s0 s1 r ≡ characteristic t0 t1 q → RootedIsomorphic s0 s1 r t0 t1 q
   results-alike e =
       root-isomorphic-trans (characteristic-alike s0 s1 r A)
       (rw e (root-isomorphic-sym (diagram t0 t1 q B .maps) (B .root-in) (characteristic-alike t0 t1 q B)))

@@ -7,26 +7,26 @@ use Prim.Native.Nat.{ℕ, zero, suc, _+_, _≤_, _<_}
 use native.Mathlib.Omega.{arith}
 use lib.ListN.{length, getD}
 use lib.Seq.{ext-getD}
-use Rattle.lists.specs.Lists.{at, put, listed, Has, find, cut}
-use Rattle.lists.specs.Ranges.{Edge, down}
-use Rattle.lists.proofs.Lists.{find-lt, getD-find, cut-other, length-cut, at-left, at-right, length-listed, at-listed, length-3, length-1}
+use Rattle.lists.specs.Lists.{at, put, tabulate, Has, find, removeAt}
+use Rattle.lists.specs.Ranges.{OneTo, down}
+use Rattle.lists.proofs.Lists.{find-lt, getD-find, removeAt-other, length-removeAt, at-left, at-right, length-listed, at-listed, length-3, length-1}
 use Rattle.lists.proofs.Ranges.{has-down, length-down}
 use Rattle.lists.proofs.Tests.{same?, lt-true}
 use Rattle.diagrams.specs.Diagram.{Diagram}
 use Rattle.words.specs.Word.{Pair, spells, spell}
 use Rattle.words.proofs.Growing.{State, state-W, state-F, state-B, state-J, state-U, state-T, old-white, new-white, k-white, J-other, J-k, J-p}
-use Rattle.labelling.specs.Labelling.{move, Along, run, label}
+use Rattle.labelling.specs.Labelling.{event, LabellingInvariant, events, label}
 use Rattle.labelling.proofs.Along.{View, is-W, is-J, is-B, is-F, view, next, size}
 use Rattle.labelling.proofs.Labels.{run-extends, inv-U, inv-T}
 use Rattle.labelling.proofs.Moves.{label-U, label-T}
 
 -- ---- lists by their entries
 
-at-ext : (s t : List ℕ) → length s ≡ length t → ((j : ℕ) → Edge (length s) j → at s j ≡ at t j) → s ≡ t
+at-ext : (s t : List ℕ) → length s ≡ length t → ((j : ℕ) → OneTo (length s) j → at s j ≡ at t j) → s ≡ t
 at-ext s t l k = ext-getD 0 s t l (λ i h. k (suc i) (omega arith))
 
-pub is-listed : (f : ℕ → ℕ) (n : ℕ) (s : List ℕ) → length s ≡ n → ((j : ℕ) → Edge n j → at s j ≡ f j) → s ≡ listed f n
-is-listed f n s l k = at-ext s (listed f n) (l ∙ sym (length-listed f n)) (λ j e. let i : Edge n j = rw l at e in k j i ∙ sym (at-listed f n j i))
+pub is-listed : (f : ℕ → ℕ) (n : ℕ) (s : List ℕ) → length s ≡ n → ((j : ℕ) → OneTo n j → at s j ≡ f j) → s ≡ tabulate f n
+is-listed f n s l k = at-ext s (tabulate f n) (l ∙ sym (length-listed f n)) (λ j e. let i : OneTo n j = rw l at e in k j i ∙ sym (at-listed f n j i))
 
 -- ---- a list that ends n, .., 2, 1
 
@@ -38,15 +38,15 @@ ends-down (x ∷ e) l (suc n) q = ends-down e l n (tail-eq-of-cons-eq q)
 module _ (n : ℕ) (f g : ℕ → ℕ) (D : Diagram n f g) where
   -- the maps of the labels given so far are those of the diagram, but at pending labels
   record Agree (st s0 s1 : List ℕ) : Type 0 where
-    blacks : (j : ℕ) → Edge (length s0) j → at s0 j ≡ f j
-    whites : (j : ℕ) → Edge (length s0) j → ¬ Has j st → at s1 j ≡ g j
+    blacks : (j : ℕ) → OneTo (length s0) j → at s0 j ≡ f j
+    whites : (j : ℕ) → OneTo (length s0) j → ¬ Has j st → at s1 j ≡ g j
 
   abbrev pub L : Pair
-  L = record { black = listed f n; white = listed g n }
+  L = record { black = tabulate f n; white = tabulate g n }
 
   abbrev Goal : ℕ → List ℕ → List ℕ → List ℕ → Type 0
-  Goal m st s0 s1 = State st s0 s1 → Agree st s0 s1 → Along n f g (down (length s0)) st → length st + n ≤ m + length s0
-      → run f g m (down (length s0)) st .marked ≡ down n → spells (run f g m (down (length s0)) st .word) st s0 s1 ≡ some L
+  Goal m st s0 s1 = State st s0 s1 → Agree st s0 s1 → LabellingInvariant n f g (down (length s0)) st → length st + n ≤ m + length s0
+      → events f g m (down (length s0)) st .marked ≡ down n → spells (events f g m (down (length s0)) st .word) st s0 s1 ≡ some L
 
   at-end : (s0 s1 : List ℕ) → State [] s0 s1 → Agree [] s0 s1 → down (length s0) ≡ down n → spells [] [] s0 s1 ≡ some L
   unfolding spells
@@ -55,24 +55,24 @@ module _ (n : ℕ) (f g : ℕ → ℕ) (D : Diagram n f g) where
       c : length s0 ≡ n
       c = sym (length-down (length s0)) ∙ ap length e ∙ length-down n
 
-  module _ (m : ℕ) (ih : (st s0 s1 : List ℕ) → Goal m st s0 s1) (k : ℕ) (r s0 s1 : List ℕ) (S : State (k ∷ r) s0 s1) (A : Agree (k ∷ r) s0 s1) (I : Along n f g (down (length s0)) (k ∷ r)) (h : length (k ∷ r) + n ≤ suc m + length s0) (e : run f g (suc m) (down (length s0)) (k ∷ r) .marked ≡ down n) where
+  module _ (m : ℕ) (ih : (st s0 s1 : List ℕ) → Goal m st s0 s1) (k : ℕ) (r s0 s1 : List ℕ) (S : State (k ∷ r) s0 s1) (A : Agree (k ∷ r) s0 s1) (I : LabellingInvariant n f g (down (length s0)) (k ∷ r)) (h : length (k ∷ r) + n ≤ suc m + length s0) (e : events f g (suc m) (down (length s0)) (k ∷ r) .marked ≡ down n) where
     abbrev o : List ℕ
     o = down (length s0)
 
-    by-W : g k ≡ k → move f g o k r ≡ record { item = 0; marked = o; stack = r } → spells (run f g (suc m) o (k ∷ r) .word) (k ∷ r) s0 s1 ≡ some L
-    unfolding run spells
+    by-W : g k ≡ k → event f g o k r ≡ record { item = 0; marked = o; stack = r } → spells (events f g (suc m) o (k ∷ r) .word) (k ∷ r) s0 s1 ≡ some L
+    unfolding events spells
     by-W w q = rw q (ih r s0 s1 (state-W k r s0 s1 S) record { blacks = A .blacks; whites = λ j i a. go j i a (same? j k) } (rw q at (next n f g (D .maps) o k r I)) (omega arith) (rw q at e))
       where
-        go : (j : ℕ) → Edge (length s0) j → ¬ Has j r → (j ≡ k) ⊎ (j ≢ k) → at s1 j ≡ g j
+        go : (j : ℕ) → OneTo (length s0) j → ¬ Has j r → (j ≡ k) ⊎ (j ≢ k) → at s1 j ≡ g j
         go j i a (inl b) = rw (b, w) (S .fixed k (inl refl))
         go j i a (inr b) = A .whites j i (⊎-elim b a)
 
     back : g (g k) ≡ k
     back = D .maps .twice k (I .edges k (I .pending k (inl refl)))
 
-    by-J : Has (g k) r → move f g o k r ≡ record { item = suc (suc (suc (find (g k) r))); marked = o; stack = cut (find (g k) r) r } → spells (run f g (suc m) o (k ∷ r) .word) (k ∷ r) s0 s1 ≡ some L
-    unfolding run spells
-    by-J i q = rw (q, lt-true d (length r) l) (ih (cut d r) s0 (put (put s1 k (getD r d 0)) (getD r d 0) k) (state-J k r s0 s1 S d l) record { blacks = A .blacks; whites = λ j b a. go j b a (same? j k) (same? j p) } (rw q at (next n f g (D .maps) o k r I)) (let z = length-cut d r l in omega arith) (rw q at e))
+    by-J : Has (g k) r → event f g o k r ≡ record { item = suc (suc (suc (find (g k) r))); marked = o; stack = removeAt (find (g k) r) r } → spells (events f g (suc m) o (k ∷ r) .word) (k ∷ r) s0 s1 ≡ some L
+    unfolding events spells
+    by-J i q = rw (q, lt-true d (length r) l) (ih (removeAt d r) s0 (put (put s1 k (getD r d 0)) (getD r d 0) k) (state-J k r s0 s1 S d l) record { blacks = A .blacks; whites = λ j b a. go j b a (same? j k) (same? j p) } (rw q at (next n f g (D .maps) o k r I)) (let z = length-removeAt d r l in omega arith) (rw q at e))
       where
         d : ℕ
         d = find (g k) r
@@ -86,41 +86,41 @@ module _ (n : ℕ) (f g : ℕ → ℕ) (D : Diagram n f g) where
         there : p ≡ g k
         there = getD-find (g k) r i
 
-        go : (j : ℕ) → Edge (length s0) j → ¬ Has j (cut d r) → (j ≡ k) ⊎ (j ≢ k) → (j ≡ p) ⊎ (j ≢ p) → at (put (put s1 k p) p k) j ≡ g j
+        go : (j : ℕ) → OneTo (length s0) j → ¬ Has j (removeAt d r) → (j ≡ k) ⊎ (j ≢ k) → (j ≡ p) ⊎ (j ≢ p) → at (put (put s1 k p) p k) j ≡ g j
         go j b a (inl u) v = rw u (J-k k r s0 s1 S d l ∙ there)
         go j b a (inr u) (inl v) = rw v (J-p k r s0 s1 S d l ∙ sym (rw there back))
-        go j b a (inr u) (inr v) = J-other k r s0 s1 S d l j u v ∙ A .whites j b (⊎-elim u (λ z. a (cut-other d r j z v)))
+        go j b a (inr u) (inr v) = J-other k r s0 s1 S d l j u v ∙ A .whites j b (⊎-elim u (λ z. a (removeAt-other d r j z v)))
 
     abbrev c : ℕ
     c = suc (length s0)
 
     -- what the move labels are the next labels
-    fresh : (o′ st′ : List ℕ) (x : ℕ) → move f g o k r ≡ record { item = x; marked = o′; stack = st′ } → o′ ≡ down (length o′)
-    unfolding run
+    fresh : (o′ st′ : List ℕ) (x : ℕ) → event f g o k r ≡ record { item = x; marked = o′; stack = st′ } → o′ ≡ down (length o′)
+    unfolding events
     fresh o′ st′ x q = let t = run-extends f g m o′ st′ in ends-down (t .more) o′ n (sym (rw q at e) ∙ t .is)
 
-    by-B : f (g k) ≡ g k → move f g o k r ≡ record { item = 2; marked = g k ∷ o; stack = r } → spells (run f g (suc m) o (k ∷ r) .word) (k ∷ r) s0 s1 ≡ some L
-    unfolding run spells
+    by-B : f (g k) ≡ g k → event f g o k r ≡ record { item = 2; marked = g k ∷ o; stack = r } → spells (events f g (suc m) o (k ∷ r) .word) (k ∷ r) s0 s1 ≡ some L
+    unfolding events spells
     by-B w q = rw q′ (rw length-1 at (ih r (s0 ++ (c ∷ [])) (put s1 k c ++ (k ∷ [])) (state-B k r s0 s1 S) record { blacks = λ j b. bl j (rw length-1 at b) (same? j c); whites = λ j b a. go j (rw length-1 at b) a (same? j k) (same? j c) }
         (rw length-1 (rw q′ at (next n f g (D .maps) o k r I))) (rw length-1 (omega arith)) (rw length-1 (rw q′ at e))))
       where
         p-c : g k ≡ c
         p-c = rw length-down at (head-eq-of-cons-eq (fresh (g k ∷ o) r 2 q))
 
-        q′ : move f g o k r ≡ record { item = 2; marked = c ∷ o; stack = r }
+        q′ : event f g o k r ≡ record { item = 2; marked = c ∷ o; stack = r }
         q′ = rw p-c at q
 
-        bl : (j : ℕ) → Edge c j → (j ≡ c) ⊎ (j ≢ c) → at (s0 ++ (c ∷ [])) j ≡ f j
+        bl : (j : ℕ) → OneTo c j → (j ≡ c) ⊎ (j ≢ c) → at (s0 ++ (c ∷ [])) j ≡ f j
         bl j b (inl u) = rw u (at-right s0 (c ∷ []) c 0 (omega arith) ∙ sym (rw p-c at w))
         bl j b (inr u) = at-left s0 (c ∷ []) j (omega arith) ∙ A .blacks j (omega arith)
 
-        go : (j : ℕ) → Edge c j → ¬ Has j r → (j ≡ k) ⊎ (j ≢ k) → (j ≡ c) ⊎ (j ≢ c) → at (put s1 k c ++ (k ∷ [])) j ≡ g j
+        go : (j : ℕ) → OneTo c j → ¬ Has j r → (j ≡ k) ⊎ (j ≢ k) → (j ≡ c) ⊎ (j ≢ c) → at (put s1 k c ++ (k ∷ [])) j ≡ g j
         go j b a (inl u) v = rw u (k-white k r s0 s1 S c (k ∷ []) ∙ sym p-c)
         go j b a (inr u) (inl v) = rw v (new-white k r s0 s1 S c c (k ∷ []) 0 (omega arith) ∙ sym (rw p-c at back))
         go j b a (inr u) (inr v) = old-white k r s0 s1 S c j (k ∷ []) (omega arith) u ∙ A .whites j (omega arith) (⊎-elim u a)
 
-    by-F : move f g o k r ≡ record { item = 1; marked = f (f (g k)) ∷ f (g k) ∷ g k ∷ o; stack = f (f (g k)) ∷ f (g k) ∷ r } → spells (run f g (suc m) o (k ∷ r) .word) (k ∷ r) s0 s1 ≡ some L
-    unfolding run spells
+    by-F : event f g o k r ≡ record { item = 1; marked = f (f (g k)) ∷ f (g k) ∷ g k ∷ o; stack = f (f (g k)) ∷ f (g k) ∷ r } → spells (events f g (suc m) o (k ∷ r) .word) (k ∷ r) s0 s1 ≡ some L
+    unfolding events spells
     by-F q = rw q′ (rw length-3 at (ih (suc (suc c) ∷ suc c ∷ r) (s0 ++ three) (put s1 k c ++ (k ∷ suc c ∷ suc (suc c) ∷ [])) (state-F k r s0 s1 S)
         record { blacks = λ j b. bl j (rw length-3 at b) (same? j c) (same? j (suc c)) (same? j (suc (suc c))); whites = λ j b a. go j (rw length-3 at b) a (same? j k) (same? j c) }
         (rw length-3 (rw q′ at (next n f g (D .maps) o k r I))) (rw length-3 (omega arith)) (rw length-3 (rw q′ at e))))
@@ -143,16 +143,16 @@ module _ (n : ℕ) (f g : ℕ → ℕ) (D : Diagram n f g) where
         c-3 : f (suc (suc c)) ≡ c
         c-3 = rw (p-c, c-1, c-2) at (D .maps .thrice (g k) (D .maps .white-in k (I .edges k (I .pending k (inl refl)))))
 
-        q′ : move f g o k r ≡ record { item = 1; marked = suc (suc c) ∷ suc c ∷ c ∷ o; stack = suc (suc c) ∷ suc c ∷ r }
+        q′ : event f g o k r ≡ record { item = 1; marked = suc (suc c) ∷ suc c ∷ c ∷ o; stack = suc (suc c) ∷ suc c ∷ r }
         q′ = rw (p-c, c-1, c-2) at q
 
-        bl : (j : ℕ) → Edge (suc (suc c)) j → (j ≡ c) ⊎ (j ≢ c) → (j ≡ suc c) ⊎ (j ≢ suc c) → (j ≡ suc (suc c)) ⊎ (j ≢ suc (suc c)) → at (s0 ++ three) j ≡ f j
+        bl : (j : ℕ) → OneTo (suc (suc c)) j → (j ≡ c) ⊎ (j ≢ c) → (j ≡ suc c) ⊎ (j ≢ suc c) → (j ≡ suc (suc c)) ⊎ (j ≢ suc (suc c)) → at (s0 ++ three) j ≡ f j
         bl j b (inl u) v w = rw u (at-right s0 three c 0 (omega arith) ∙ sym c-1)
         bl j b (inr u) (inl v) w = rw v (at-right s0 three (suc c) 1 (omega arith) ∙ sym c-2)
         bl j b (inr u) (inr v) (inl w) = rw w (at-right s0 three (suc (suc c)) 2 (omega arith) ∙ sym c-3)
         bl j b (inr u) (inr v) (inr w) = at-left s0 three j (omega arith) ∙ A .blacks j (omega arith)
 
-        go : (j : ℕ) → Edge (suc (suc c)) j → ¬ Has j (suc (suc c) ∷ suc c ∷ r) → (j ≡ k) ⊎ (j ≢ k) → (j ≡ c) ⊎ (j ≢ c) → at (put s1 k c ++ (k ∷ suc c ∷ suc (suc c) ∷ [])) j ≡ g j
+        go : (j : ℕ) → OneTo (suc (suc c)) j → ¬ Has j (suc (suc c) ∷ suc c ∷ r) → (j ≡ k) ⊎ (j ≢ k) → (j ≡ c) ⊎ (j ≢ c) → at (put s1 k c ++ (k ∷ suc c ∷ suc (suc c) ∷ [])) j ≡ g j
         go j b a (inl u) v = rw u (k-white k r s0 s1 S c (k ∷ suc c ∷ suc (suc c) ∷ []) ∙ sym p-c)
         go j b a (inr u) (inl v) = rw v (new-white k r s0 s1 S c c (k ∷ suc c ∷ suc (suc c) ∷ []) 0 (omega arith) ∙ sym (rw p-c at back))
         go j b a (inr u) (inr v) =
@@ -160,23 +160,23 @@ module _ (n : ℕ) (f g : ℕ → ℕ) (D : Diagram n f g) where
             let y : j ≢ suc (suc c) = λ z. a (inl z) in
             old-white k r s0 s1 S c j (k ∷ suc c ∷ suc (suc c) ∷ []) (omega arith) u ∙ A .whites j (omega arith) (⊎-elim u (λ z. a (inr (inr z))))
 
-    step : spells (run f g (suc m) o (k ∷ r) .word) (k ∷ r) s0 s1 ≡ some L
+    step : spells (events f g (suc m) o (k ∷ r) .word) (k ∷ r) s0 s1 ≡ some L
     step = go (view n f g (D .maps) o k r I)
       where
-        go : View f g o k r → spells (run f g (suc m) o (k ∷ r) .word) (k ∷ r) s0 s1 ≡ some L
+        go : View f g o k r → spells (events f g (suc m) o (k ∷ r) .word) (k ∷ r) s0 s1 ≡ some L
         go (is-W w q) = by-W w q
         go (is-J a w q) = by-J w q
         go (is-B a b w q) = by-B w q
         go (is-F a b w q) = by-F q
 
   spelt : (m : ℕ) (st s0 s1 : List ℕ) → Goal m st s0 s1
-  unfolding run
+  unfolding events
   spelt zero [] s0 s1 S A I h e = at-end s0 s1 S A e
   spelt zero (k ∷ r) s0 s1 S A I h e = let i = rw length-down at (size n f g (D .maps) (down (length s0)) (k ∷ r) I) in absurd (omega arith)
   spelt (suc m) [] s0 s1 S A I h e = at-end s0 s1 S A e
   spelt (suc m) (k ∷ r) s0 s1 S A I h e = step m (λ st t0 t1. spelt m st t0 t1) k r s0 s1 S A I h e
 
-  one : Edge n 1
+  one : OneTo n 1
   one = let i = D .maps .some-edge in omega arith
 
   pub own-word-spells : label n f g 1 .marked ≡ down n → spell (label n f g 1 .word) ≡ some L
@@ -205,7 +205,7 @@ module _ (n : ℕ) (f g : ℕ → ℕ) (D : Diagram n f g) where
           four : f 3 ≡ 1
           four = rw (two, three) at (D .maps .thrice 1 one)
 
-          bl : (j : ℕ) → Edge 3 j → (j ≡ 1) ⊎ (j ≢ 1) → (j ≡ 2) ⊎ (j ≢ 2) → at (2 ∷ 3 ∷ 1 ∷ []) j ≡ f j
+          bl : (j : ℕ) → OneTo 3 j → (j ≡ 1) ⊎ (j ≢ 1) → (j ≡ 2) ⊎ (j ≢ 2) → at (2 ∷ 3 ∷ 1 ∷ []) j ≡ f j
           bl j b (inl u) v = rw (u, two)
           bl j b (inr u) (inl v) = rw (v, three)
           bl j b (inr u) (inr v) = let z : j ≡ 3 = omega arith in rw (z, four)

@@ -7,10 +7,10 @@ use Prim.Native.Nat.{ℕ, zero, suc, pred, _≤_}
 use native.Mathlib.Omega.{arith}
 use lib.ListN.{length}
 use Rattle.lists.specs.Lists.{at}
-use Rattle.lists.specs.Ranges.{Edge}
+use Rattle.lists.specs.Ranges.{OneTo}
 use Rattle.lists.proofs.Tests.{same?}
 use Rattle.diagrams.specs.Check.{Accepts}
-use Rattle.diagrams.specs.Isomorphism.{Alike}
+use Rattle.diagrams.specs.Isomorphism.{Isomorphic}
 use Rattle.diagrams.proofs.Isomorphisms.{root-isomorphic-isomorphic}
 use Rattle.words.specs.Order.{Before, lesser}
 use Rattle.words.proofs.Order.{compared, before-irrefl, before-trans, Compared, lesser-least, before, equal, after}
@@ -18,7 +18,7 @@ use Rattle.labelling.specs.Labelling.{wordOf}
 use Rattle.labelling.specs.Rootings.{leastOf, leastWord, Kept}
 use Rattle.labelling.proofs.OfLists.{alike-words, words-alike}
 
-pub accepts-rerooted : (s0 s1 : List ℕ) (r : ℕ) → Accepts s0 s1 r → (x : ℕ) → Edge (length s0) x → Accepts s0 s1 x
+pub accepts-rerooted : (s0 s1 : List ℕ) (r : ℕ) → Accepts s0 s1 r → (x : ℕ) → OneTo (length s0) x → Accepts s0 s1 x
 accepts-rerooted s0 s1 r A x e = record {
   size = A .size;
   lengths = A .lengths;
@@ -35,9 +35,9 @@ accepts-rerooted s0 s1 r A x e = record {
 -- w is the word of one of the rootings 1..m, and none of theirs comes before it
 pub record LeastOf (s0 s1 : List ℕ) (m : ℕ) (w : List ℕ) : Type 0 where
   pub rooting : ℕ
-  pub within : Edge m rooting
+  pub within : OneTo m rooting
   pub is : w ≡ wordOf s0 s1 rooting
-  pub none-before : (x : ℕ) → Edge m x → ¬ Before (wordOf s0 s1 x) w
+  pub none-before : (x : ℕ) → OneTo m x → ¬ Before (wordOf s0 s1 x) w
 
 -- of a least word and one more, the lesser
 least-more : (s0 s1 : List ℕ) (m : ℕ) (w : List ℕ) → LeastOf s0 s1 m w → LeastOf s0 s1 (suc m) (lesser w (wordOf s0 s1 (suc m)))
@@ -46,7 +46,7 @@ least-more s0 s1 m w L = go (lesser-least w v .one)
     v : List ℕ
     v = wordOf s0 s1 (suc m)
 
-    none : (x : ℕ) → Edge (suc m) x → ¬ Before (wordOf s0 s1 x) (lesser w v)
+    none : (x : ℕ) → OneTo (suc m) x → ¬ Before (wordOf s0 s1 x) (lesser w v)
     none x e b = at-new (same? x (suc m))
       where
         at-new : (x ≡ suc m) ⊎ (x ≢ suc m) → ⊥
@@ -86,7 +86,7 @@ least-same s0 s1 m v w L K = go (compared v w)
 
 -- ---- kept
 
-module _ (s0 s1 : List ℕ) (root : ℕ) (e : Edge (length s0) root) where
+module _ (s0 s1 : List ℕ) (root : ℕ) (e : OneTo (length s0) root) where
   some-edge : 1 ≤ length s0
   some-edge = omega arith
 
@@ -101,39 +101,39 @@ module _ (s0 s1 : List ℕ) (root : ℕ) (e : Edge (length s0) root) where
 -- ---- isomorphic without roots
 
 module _ (s0 s1 : List ℕ) (r : ℕ) (A : Accepts s0 s1 r) (t0 t1 : List ℕ) (q : ℕ) (B : Accepts t0 t1 q) where
-  pub rooting-alike : (x : ℕ) → Edge (length s0) x → wordOf s0 s1 x ≡ wordOf t0 t1 q → Alike s0 s1 t0 t1
+  pub rooting-alike : (x : ℕ) → OneTo (length s0) x → wordOf s0 s1 x ≡ wordOf t0 t1 q → Isomorphic s0 s1 t0 t1
   rooting-alike x e w = root-isomorphic-isomorphic (words-alike s0 s1 x (accepts-rerooted s0 s1 r A x e) t0 t1 q B w)
 
   -- an isomorphism carries rooting to rooting, with its word
-  pub alike-carries : (i : Alike s0 s1 t0 t1) (x : ℕ) → Edge (length s0) x → Edge (length t0) (i .by x) × (wordOf s0 s1 x ≡ wordOf t0 t1 (i .by x))
+  pub alike-carries : (i : Isomorphic s0 s1 t0 t1) (x : ℕ) → OneTo (length s0) x → OneTo (length t0) (i .by x) × (wordOf s0 s1 x ≡ wordOf t0 t1 (i .by x))
   alike-carries i x e =
-      let y : Edge (length t0) (i .by x) = (let z = i .is .into x e in let s = i .sizes in omega arith) in
+      let y : OneTo (length t0) (i .by x) = (let z = i .is .into x e in let s = i .sizes in omega arith) in
       (y, alike-words s0 s1 x (accepts-rerooted s0 s1 r A x e) t0 t1 (i .by x) (accepts-rerooted t0 t1 q B (i .by x) y) record { sizes = i .sizes; by = i .by; is = i .is; roots = refl })
 
-  pub alike-rooting : Alike s0 s1 t0 t1 → (x : ℕ) × Edge (length s0) x × (wordOf s0 s1 x ≡ wordOf t0 t1 q)
+  pub alike-rooting : Isomorphic s0 s1 t0 t1 → (x : ℕ) × OneTo (length s0) x × (wordOf s0 s1 x ≡ wordOf t0 t1 q)
   alike-rooting i =
       let o = i .is .onto q (let z = B .root-in in let s = i .sizes in omega arith) in
       (o .0, o .1, alike-carries i (o .0) (o .1) .1 ∙ ap (wordOf t0 t1) (o .2))
 
   -- the least of one is the least of the other
-  least-carried : (i : Alike s0 s1 t0 t1) → LeastOf t0 t1 (length t0) (leastWord s0 s1)
+  least-carried : (i : Isomorphic s0 s1 t0 t1) → LeastOf t0 t1 (length t0) (leastWord s0 s1)
   least-carried i = record { rooting = i .by (L .rooting); within = c .0; is = L .is ∙ c .1; none-before = none }
     where
       L : LeastOf s0 s1 (length s0) (leastWord s0 s1)
       L = least-word s0 s1 (A .size .0)
 
-      c : Edge (length t0) (i .by (L .rooting)) × (wordOf s0 s1 (L .rooting) ≡ wordOf t0 t1 (i .by (L .rooting)))
+      c : OneTo (length t0) (i .by (L .rooting)) × (wordOf s0 s1 (L .rooting) ≡ wordOf t0 t1 (i .by (L .rooting)))
       c = alike-carries i (L .rooting) (L .within)
 
-      none : (y : ℕ) → Edge (length t0) y → ¬ Before (wordOf t0 t1 y) (leastWord s0 s1)
+      none : (y : ℕ) → OneTo (length t0) y → ¬ Before (wordOf t0 t1 y) (leastWord s0 s1)
       none y e b =
           let o = i .is .onto y (let s = i .sizes in omega arith) in
           L .none-before (o .0) (o .1) (rw (alike-carries i (o .0) (o .1) .1 ∙ ap (wordOf t0 t1) (o .2)) b)
 
-  pub alike-least : Alike s0 s1 t0 t1 → leastWord s0 s1 ≡ leastWord t0 t1
+  pub alike-least : Isomorphic s0 s1 t0 t1 → leastWord s0 s1 ≡ leastWord t0 t1
   alike-least i = least-same t0 t1 (length t0) (leastWord s0 s1) (leastWord t0 t1) (least-carried i) (least-word t0 t1 (B .size .0))
 
-  pub least-alike : leastWord s0 s1 ≡ leastWord t0 t1 → Alike s0 s1 t0 t1
+  pub least-alike : leastWord s0 s1 ≡ leastWord t0 t1 → Isomorphic s0 s1 t0 t1
   least-alike w = root-isomorphic-isomorphic
       (words-alike s0 s1 (L .rooting) (accepts-rerooted s0 s1 r A (L .rooting) (L .within)) t0 t1 (K .rooting) (accepts-rerooted t0 t1 q B (K .rooting) (K .within)) (sym (L .is) ∙ w ∙ K .is))
     where

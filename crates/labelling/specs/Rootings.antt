@@ -7,7 +7,7 @@
 use mathlib.Core.List.{List}
 use Prim.Native.Nat.{ℕ, zero, suc, pred}
 use lib.ListN.{length}
-use Rattle.lists.specs.Ranges.{Edge, tally}
+use Rattle.lists.specs.Ranges.{OneTo, card}
 use Rattle.words.specs.Order.{Before, lesser, same}
 use Rattle.labelling.specs.Labelling.{wordOf}
 
@@ -19,7 +19,7 @@ unfoldable pub leastWord : List ℕ → List ℕ → List ℕ
 leastWord s0 s1 = leastOf s0 s1 (pred (length s0))
 
 unfoldable pub Kept : List ℕ → List ℕ → ℕ → Type 0
-Kept s0 s1 root = (x : ℕ) → Edge (length s0) x → ¬ Before (wordOf s0 s1 x) (wordOf s0 s1 root)
+Kept s0 s1 root = (x : ℕ) → OneTo (length s0) x → ¬ Before (wordOf s0 s1 x) (wordOf s0 s1 root)
 
 unfoldable pub symmetries : List ℕ → List ℕ → ℕ → ℕ
-symmetries s0 s1 root = tally (length s0) (λ x. same (wordOf s0 s1 x) (wordOf s0 s1 root))
+symmetries s0 s1 root = card (length s0) (λ x. same (wordOf s0 s1 x) (wordOf s0 s1 root))

@@ -1,6 +1,6 @@
-pub mod Parts
-pub mod Blocks
-pub mod Midlist
-pub mod Refusals
-pub mod Marking
-pub mod Whole
+pub mod Completions
+pub mod Listing
+pub mod Ranking
+pub mod Examples
+pub mod Positions
+pub mod InPlace

@@ -1,4 +1,4 @@
-pub mod Answers
-pub mod Rows
-pub mod Filling
-pub mod Promises
+pub mod Listing
+pub mod Position
+pub mod Ranking
+pub mod Diagrams

@@ -1,7 +1,7 @@
 -- Laws of lists: membership, no repeats, places, a map's entries, a statement for each element.
 use mathlib.Core.Path.{_≡_, refl, sym, ap, _∙_, subst}
 use mathlib.Core.Logic.{_≢_, _⊎_, inl, inr, ⊎-elim, _↔_}
-use mathlib.Core.Bool.{Bool, true, false}
+use mathlib.Core.Bool.{Bool, true, false, cond}
 use mathlib.Core.List.{List, [], _∷_, _++_, List·Memᴰ, List·Memᴰ·not-nil, List·Memᴰ·cases-cons}
 use Prim.Native.Nat.{ℕ, zero, suc, _+_, _-_, _≤_, _<_}
 use native.Mathlib.Nat.{not-suc-le-zero, le-of-suc-le-suc}
@@ -9,8 +9,8 @@ use native.Mathlib.Omega.{arith}
 use lib.Dec.{eqb}
 use lib.ListN.{length, getD, set, take, drop, replicate, length-set, length-append, List·getD-append}
 use lib.Seq.{getD-set-same, getD-set-other, getD-append-add, set-append-left, take-all}
-use Rattle.lists.specs.Lists.{pick, at, put, listed, Has, Apart, All, has, find, cut}
-use Rattle.lists.specs.Ranges.{Edge}
+use Rattle.lists.specs.Lists.{at, put, tabulate, Has, Distinct, All, has, find, removeAt}
+use Rattle.lists.specs.Ranges.{OneTo}
 use Rattle.lists.proofs.Tests.{eqb-same, eqb-ne, same?}
 
 -- ---- membership
@@ -20,7 +20,7 @@ has-true x [] h = absurd h
 has-true x (y ∷ l) (inl e) = rw (e, eqb-same y)
 has-true x (y ∷ l) (inr h) = go (eqb x y) (has-true x l h)
   where
-    go : (b : Bool) → has x l ≡ true → pick b true (has x l) ≡ true
+    go : (b : Bool) → has x l ≡ true → cond b true (has x l) ≡ true
     go true e = refl
     go false e = e
 
@@ -52,9 +52,9 @@ snoc-has x (z ∷ l) y (inl (inl e)) = inl e
 snoc-has x (z ∷ l) y (inl (inr h)) = inr (snoc-has x l y (inl h))
 snoc-has x (z ∷ l) y (inr e) = inr (snoc-has x l y (inr e))
 
-pub apart-snoc : (l : List ℕ) (y : ℕ) → Apart l → ¬ Has y l → Apart (l ++ (y ∷ []))
-apart-snoc [] y a n = (λ h. h, tt)
-apart-snoc (z ∷ l) y a n = (λ h. ⊎-elim (a .0) (λ e. n (inl (sym e))) (has-snoc z l y h), apart-snoc l y (a .1) (λ h. n (inr h)))
+pub distinct-snoc : (l : List ℕ) (y : ℕ) → Distinct l → ¬ Has y l → Distinct (l ++ (y ∷ []))
+distinct-snoc [] y a n = (λ h. h, tt)
+distinct-snoc (z ∷ l) y a n = (λ h. ⊎-elim (a .0) (λ e. n (inl (sym e))) (has-snoc z l y h), distinct-snoc l y (a .1) (λ h. n (inr h)))
 
 -- ---- places
 
@@ -81,45 +81,45 @@ has-getD [] d h = absurd (not-suc-le-zero h)
 has-getD (y ∷ l) zero h = inl refl
 has-getD (y ∷ l) (suc d) h = inr (has-getD l d (le-of-suc-le-suc h))
 
-pub find-getD : (l : List ℕ) (d : ℕ) → Apart l → d < length l → find (getD l d 0) l ≡ d
+pub find-getD : (l : List ℕ) (d : ℕ) → Distinct l → d < length l → find (getD l d 0) l ≡ d
 find-getD [] d a h = absurd (not-suc-le-zero h)
 find-getD (y ∷ l) zero a h = rw eqb-same
 find-getD (y ∷ l) (suc d) a h = rw (eqb-ne (getD l d 0) y (λ e. a .0 (rw e at (has-getD l d (le-of-suc-le-suc h))))) (ap suc (find-getD l d (a .1) (le-of-suc-le-suc h)))
 
-pub cut-has : (d : ℕ) (l : List ℕ) (x : ℕ) → Has x (cut d l) → Has x l
-cut-has d [] x h = h
-cut-has zero (y ∷ l) x h = inr h
-cut-has (suc d) (y ∷ l) x (inl e) = inl e
-cut-has (suc d) (y ∷ l) x (inr h) = inr (cut-has d l x h)
+pub removeAt-has : (d : ℕ) (l : List ℕ) (x : ℕ) → Has x (removeAt d l) → Has x l
+removeAt-has d [] x h = h
+removeAt-has zero (y ∷ l) x h = inr h
+removeAt-has (suc d) (y ∷ l) x (inl e) = inl e
+removeAt-has (suc d) (y ∷ l) x (inr h) = inr (removeAt-has d l x h)
 
-pub cut-not : (d : ℕ) (l : List ℕ) → Apart l → d < length l → ¬ Has (getD l d 0) (cut d l)
-cut-not d [] a h m = not-suc-le-zero h
-cut-not zero (y ∷ l) a h m = a .0 m
-cut-not (suc d) (y ∷ l) a h (inl e) = a .0 (rw e at (has-getD l d (le-of-suc-le-suc h)))
-cut-not (suc d) (y ∷ l) a h (inr m) = cut-not d l (a .1) (le-of-suc-le-suc h) m
+pub removeAt-not : (d : ℕ) (l : List ℕ) → Distinct l → d < length l → ¬ Has (getD l d 0) (removeAt d l)
+removeAt-not d [] a h m = not-suc-le-zero h
+removeAt-not zero (y ∷ l) a h m = a .0 m
+removeAt-not (suc d) (y ∷ l) a h (inl e) = a .0 (rw e at (has-getD l d (le-of-suc-le-suc h)))
+removeAt-not (suc d) (y ∷ l) a h (inr m) = removeAt-not d l (a .1) (le-of-suc-le-suc h) m
 
-pub cut-other : (d : ℕ) (l : List ℕ) (x : ℕ) → Has x l → x ≢ getD l d 0 → Has x (cut d l)
-cut-other d [] x h n = h
-cut-other zero (y ∷ l) x (inl e) n = absurd (n e)
-cut-other zero (y ∷ l) x (inr h) n = h
-cut-other (suc d) (y ∷ l) x (inl e) n = inl e
-cut-other (suc d) (y ∷ l) x (inr h) n = inr (cut-other d l x h n)
+pub removeAt-other : (d : ℕ) (l : List ℕ) (x : ℕ) → Has x l → x ≢ getD l d 0 → Has x (removeAt d l)
+removeAt-other d [] x h n = h
+removeAt-other zero (y ∷ l) x (inl e) n = absurd (n e)
+removeAt-other zero (y ∷ l) x (inr h) n = h
+removeAt-other (suc d) (y ∷ l) x (inl e) n = inl e
+removeAt-other (suc d) (y ∷ l) x (inr h) n = inr (removeAt-other d l x h n)
 
-pub apart-cut : (d : ℕ) (l : List ℕ) → Apart l → Apart (cut d l)
-apart-cut d [] a = tt
-apart-cut zero (y ∷ l) a = a .1
-apart-cut (suc d) (y ∷ l) a = (λ h. a .0 (cut-has d l y h), apart-cut d l (a .1))
+pub distinct-removeAt : (d : ℕ) (l : List ℕ) → Distinct l → Distinct (removeAt d l)
+distinct-removeAt d [] a = tt
+distinct-removeAt zero (y ∷ l) a = a .1
+distinct-removeAt (suc d) (y ∷ l) a = (λ h. a .0 (removeAt-has d l y h), distinct-removeAt d l (a .1))
 
-pub length-cut : (d : ℕ) (l : List ℕ) → d < length l → suc (length (cut d l)) ≡ length l
-length-cut d [] h = absurd (not-suc-le-zero h)
-length-cut zero (y ∷ l) h = refl
-length-cut (suc d) (y ∷ l) h = ap suc (length-cut d l (le-of-suc-le-suc h))
+pub length-removeAt : (d : ℕ) (l : List ℕ) → d < length l → suc (length (removeAt d l)) ≡ length l
+length-removeAt d [] h = absurd (not-suc-le-zero h)
+length-removeAt zero (y ∷ l) h = refl
+length-removeAt (suc d) (y ∷ l) h = ap suc (length-removeAt d l (le-of-suc-le-suc h))
 
 -- a list without repeats, whose members another has, is no longer than that
-pub pigeons : (a b : List ℕ) → Apart a → ((x : ℕ) → Has x a → Has x b) → length a ≤ length b
+pub pigeons : (a b : List ℕ) → Distinct a → ((x : ℕ) → Has x a → Has x b) → length a ≤ length b
 pigeons [] b p s = omega arith
-pigeons (x ∷ a) b p s = let i = pigeons a (cut (find x b) b) (p .1) (λ y h. cut-other (find x b) b y (s y (inr h)) (λ e. p .0 (rw (e ∙ getD-find x b (s x (inl refl))) at h))) in
-    let j = length-cut (find x b) b (find-lt x b (s x (inl refl))) in omega arith
+pigeons (x ∷ a) b p s = let i = pigeons a (removeAt (find x b) b) (p .1) (λ y h. removeAt-other (find x b) b y (s y (inr h)) (λ e. p .0 (rw (e ∙ getD-find x b (s x (inl refl))) at h))) in
+    let j = length-removeAt (find x b) b (find-lt x b (s x (inl refl))) in omega arith
 
 -- ---- a map's entries
 
@@ -127,7 +127,7 @@ pub length-put : (s : List ℕ) (k v : ℕ) → length (put s k v) ≡ length s
 length-put s zero v = refl
 length-put s (suc k) v = length-set s k v
 
-pub at-put-same : (s : List ℕ) (k v : ℕ) → Edge (length s) k → at (put s k v) k ≡ v
+pub at-put-same : (s : List ℕ) (k v : ℕ) → OneTo (length s) k → at (put s k v) k ≡ v
 at-put-same s zero v e = absurd (omega arith)
 at-put-same s (suc k) v e = getD-set-same s k v 0 (e .1)
 
@@ -140,7 +140,7 @@ pub at-left : (s t : List ℕ) (j : ℕ) → j ≤ length s → at (s ++ t) j �
 at-left s t zero h = refl
 at-left s t (suc j) h = List·getD-append s t 0 j h
 
-pub put-left : (s t : List ℕ) (k v : ℕ) → Edge (length s) k → put (s ++ t) k v ≡ put s k v ++ t
+pub put-left : (s t : List ℕ) (k v : ℕ) → OneTo (length s) k → put (s ++ t) k v ≡ put s k v ++ t
 put-left s t zero v e = absurd (omega arith)
 put-left s t (suc k) v e = set-append-left s t k v (e .1)
 
@@ -161,10 +161,10 @@ put-place s zero v h = absurd (omega arith)
 put-place s (suc i) v h = let e : suc i - 1 ≡ i = omega arith in rw e
 
 -- what holds at each place holds of each entry
-pub places-edges : (P : ℕ → Type 0) (s : List ℕ) → ((k : ℕ) → k < length s → P (getD s k 0)) ↔ ((x : ℕ) → Edge (length s) x → P (at s x))
+pub places-edges : (P : ℕ → Type 0) (s : List ℕ) → ((k : ℕ) → k < length s → P (getD s k 0)) ↔ ((x : ℕ) → OneTo (length s) x → P (at s x))
 places-edges P s = (to, λ a k l. a (suc k) (omega arith))
   where
-    to : ((k : ℕ) → k < length s → P (getD s k 0)) → (x : ℕ) → Edge (length s) x → P (at s x)
+    to : ((k : ℕ) → k < length s → P (getD s k 0)) → (x : ℕ) → OneTo (length s) x → P (at s x)
     to a zero e = absurd (omega arith)
     to a (suc i) e = a i (e .1)
 
@@ -179,17 +179,17 @@ drop-zeros m zero h = let e : m - 0 ≡ m = omega arith in rw e
 drop-zeros zero (suc n) h = absurd (omega arith)
 drop-zeros (suc m) (suc n) h = let e : suc m - suc n ≡ m - n = omega arith in rw e (drop-zeros m n (omega arith))
 
-pub length-listed : (f : ℕ → ℕ) (n : ℕ) → length (listed f n) ≡ n
+pub length-listed : (f : ℕ → ℕ) (n : ℕ) → length (tabulate f n) ≡ n
 length-listed f zero = refl
 length-listed f (suc n) = simp (length-append, length-listed f n) (omega arith)
 
-pub at-listed : (f : ℕ → ℕ) (n x : ℕ) → Edge n x → at (listed f n) x ≡ f x
+pub at-listed : (f : ℕ → ℕ) (n x : ℕ) → OneTo n x → at (tabulate f n) x ≡ f x
 at-listed f zero x e = absurd (omega arith)
 at-listed f (suc n) x e = go (same? x (suc n)) (at-listed f n x)
   where
-    go : (x ≡ suc n) ⊎ (x ≢ suc n) → (Edge n x → at (listed f n) x ≡ f x) → at (listed f (suc n)) x ≡ f x
-    go (inl q) k = rw q (at-right (listed f n) (f (suc n) ∷ []) (suc n) 0 (rw length-listed (omega arith)))
-    go (inr q) k = at-left (listed f n) (f (suc n) ∷ []) x (rw length-listed (omega arith)) ∙ k (omega arith)
+    go : (x ≡ suc n) ⊎ (x ≢ suc n) → (OneTo n x → at (tabulate f n) x ≡ f x) → at (tabulate f (suc n)) x ≡ f x
+    go (inl q) k = rw q (at-right (tabulate f n) (f (suc n) ∷ []) (suc n) 0 (rw length-listed (omega arith)))
+    go (inr q) k = at-left (tabulate f n) (f (suc n) ∷ []) x (rw length-listed (omega arith)) ∙ k (omega arith)
 
 -- the elements after the first, as the code hands them on: a part of the list
 pub rest-is : (x : ℕ) (s : List ℕ) → take (length (x ∷ s) - 1) (drop 1 (x ∷ s)) ≡ s
@@ -226,10 +226,10 @@ module _ {A : Type 0} where
   all-mem P [] a m = absurd (List·Memᴰ·not-nil m)
   all-mem P (y ∷ s) {x} a m = ⊎-elim {C = P x} (λ e. subst P (sym e) (a .0)) (λ n. all-mem P s (a .1) n) (List·Memᴰ·cases-cons m)
 
-pub all-cut : (P : ℕ → Type 0) (d : ℕ) (s : List ℕ) → All P s → All P (cut d s)
-all-cut P d [] a = tt
-all-cut P zero (x ∷ s) a = a .1
-all-cut P (suc d) (x ∷ s) a = (a .0, all-cut P d s (a .1))
+pub all-removeAt : (P : ℕ → Type 0) (d : ℕ) (s : List ℕ) → All P s → All P (removeAt d s)
+all-removeAt P d [] a = tt
+all-removeAt P zero (x ∷ s) a = a .1
+all-removeAt P (suc d) (x ∷ s) a = (a .0, all-removeAt P d s (a .1))
 
 pub all-has : (P : ℕ → Type 0) (l : List ℕ) (x : ℕ) → All P l → Has x l → P x
 all-has P [] x a h = absurd h

@@ -1,62 +1,62 @@
 -- Laws of the numbers 1 to n.
 use mathlib.Core.Path.{_≡_, refl, sym, ap}
 use mathlib.Core.Logic.{_≢_, _⊎_, inl, inr}
-use mathlib.Core.Bool.{Bool, true, false}
+use mathlib.Core.Bool.{Bool, true, false, cond}
 use mathlib.Core.List.{List, [], _∷_}
 use Prim.Native.Nat.{ℕ, zero, suc, _+_, _≤_}
 use native.Mathlib.Omega.{arith}
 use lib.ListN.{length}
-use Rattle.lists.specs.Lists.{pick, Has, Apart}
-use Rattle.lists.specs.Ranges.{Edge, every, tally, down}
+use Rattle.lists.specs.Lists.{Has, Distinct}
+use Rattle.lists.specs.Ranges.{OneTo, every, card, down}
 use Rattle.lists.proofs.Tests.{same?, both-true}
 use Rattle.lists.proofs.Lists.{has?, pigeons}
 
 -- ---- n, .., 2, 1
 
-pub has-down : (n x : ℕ) → Edge n x → Has x (down n)
+pub has-down : (n x : ℕ) → OneTo n x → Has x (down n)
 has-down zero x e = absurd (omega arith)
 has-down (suc n) x e = go (same? x (suc n)) (has-down n x)
   where
-    go : (x ≡ suc n) ⊎ (x ≢ suc n) → (Edge n x → Has x (down n)) → Has x (down (suc n))
+    go : (x ≡ suc n) ⊎ (x ≢ suc n) → (OneTo n x → Has x (down n)) → Has x (down (suc n))
     go (inl p) k = inl p
     go (inr q) k = inr (k (omega arith))
 
-pub down-has : (n x : ℕ) → Has x (down n) → Edge n x
+pub down-has : (n x : ℕ) → Has x (down n) → OneTo n x
 down-has zero x h = absurd h
 down-has (suc n) x (inl e) = omega arith
 down-has (suc n) x (inr h) = let i = down-has n x h in omega arith
 
-pub apart-down : (n : ℕ) → Apart (down n)
-apart-down zero = tt
-apart-down (suc n) = (λ h. let i = down-has n (suc n) h in omega arith, apart-down n)
+pub distinct-down : (n : ℕ) → Distinct (down n)
+distinct-down zero = tt
+distinct-down (suc n) = (λ h. let i = down-has n (suc n) h in omega arith, distinct-down n)
 
 pub length-down : (n : ℕ) → length (down n) ≡ n
 length-down zero = refl
 length-down (suc n) = ap suc (length-down n)
 
 -- a list of edges without repeats has at most n
-pub edges-few : (n : ℕ) (l : List ℕ) → Apart l → ((x : ℕ) → Has x l → Edge n x) → length l ≤ n
+pub edges-few : (n : ℕ) (l : List ℕ) → Distinct l → ((x : ℕ) → Has x l → OneTo n x) → length l ≤ n
 edges-few n l a e = rw length-down at (pigeons l (down n) a (λ x h. has-down n x (e x h)))
 
 -- ---- a test at each of 1..n
 
-pub every-true : (n : ℕ) (t : ℕ → Bool) → every n t ≡ true → (x : ℕ) → Edge n x → t x ≡ true
+pub every-true : (n : ℕ) (t : ℕ → Bool) → every n t ≡ true → (x : ℕ) → OneTo n x → t x ≡ true
 every-true zero t e x i = absurd (omega arith)
 every-true (suc n) t e x i = go (same? x (suc n)) (every-true n t (both-true (t (suc n)) (every n t) e .1) x)
   where
-    go : (x ≡ suc n) ⊎ (x ≢ suc n) → (Edge n x → t x ≡ true) → t x ≡ true
+    go : (x ≡ suc n) ⊎ (x ≢ suc n) → (OneTo n x → t x ≡ true) → t x ≡ true
     go (inl q) k = rw q (both-true (t (suc n)) (every n t) e .0)
     go (inr q) k = k (omega arith)
 
-pub true-every : (n : ℕ) (t : ℕ → Bool) → ((x : ℕ) → Edge n x → t x ≡ true) → every n t ≡ true
+pub true-every : (n : ℕ) (t : ℕ → Bool) → ((x : ℕ) → OneTo n x → t x ≡ true) → every n t ≡ true
 true-every zero t k = refl
 true-every (suc n) t k = rw (k (suc n) (omega arith)) (true-every n t (λ x i. k x (omega arith)))
 
-pub tally-most : (n : ℕ) (t : ℕ → Bool) → tally n t ≤ n
-tally-most zero t = omega arith
-tally-most (suc n) t = go (t (suc n)) (tally-most n t)
+pub card-most : (n : ℕ) (t : ℕ → Bool) → card n t ≤ n
+card-most zero t = omega arith
+card-most (suc n) t = go (t (suc n)) (card-most n t)
   where
-    go : (b : Bool) → tally n t ≤ n → pick b 1 0 + tally n t ≤ suc n
+    go : (b : Bool) → card n t ≤ n → cond b 1 0 + card n t ≤ suc n
     go true h = omega arith
     go false h = omega arith
 
@@ -71,16 +71,16 @@ unfolding image
 image-length φ zero = refl
 image-length φ (suc n) = ap suc (image-length φ n)
 
-image-from : (φ : ℕ → ℕ) (n y : ℕ) → Has y (image φ n) → (x : ℕ) × Edge n x × (φ x ≡ y)
+image-from : (φ : ℕ → ℕ) (n y : ℕ) → Has y (image φ n) → (x : ℕ) × OneTo n x × (φ x ≡ y)
 unfolding image
 image-from φ zero y h = absurd h
 image-from φ (suc n) y (inl e) = (suc n, omega arith, sym e)
 image-from φ (suc n) y (inr h) = let q = image-from φ n y h in let i = q .1 in (q .0, omega arith, q .2)
 
-image-apart : (φ : ℕ → ℕ) (n m : ℕ) → m ≤ n → ((x y : ℕ) → Edge n x → Edge n y → φ x ≡ φ y → x ≡ y) → Apart (image φ m)
+image-distinct : (φ : ℕ → ℕ) (n m : ℕ) → m ≤ n → ((x y : ℕ) → OneTo n x → OneTo n y → φ x ≡ φ y → x ≡ y) → Distinct (image φ m)
 unfolding image
-image-apart φ n zero l inj = tt
-image-apart φ n (suc m) l inj = (no, image-apart φ n m (omega arith) inj)
+image-distinct φ n zero l inj = tt
+image-distinct φ n (suc m) l inj = (no, image-distinct φ n m (omega arith) inj)
   where
     no : ¬ Has (φ (suc m)) (image φ m)
     no h =
@@ -89,14 +89,14 @@ image-apart φ n (suc m) l inj = (no, image-apart φ n m (omega arith) inj)
         let e = inj (q .0) (suc m) (omega arith) (omega arith) (q .2) in
         omega arith
 
-pub onto : (n : ℕ) (φ : ℕ → ℕ) → ((x : ℕ) → Edge n x → Edge n (φ x)) → ((x y : ℕ) → Edge n x → Edge n y → φ x ≡ φ y → x ≡ y)
-    → (y : ℕ) → Edge n y → (x : ℕ) × Edge n x × (φ x ≡ y)
+pub onto : (n : ℕ) (φ : ℕ → ℕ) → ((x : ℕ) → OneTo n x → OneTo n (φ x)) → ((x y : ℕ) → OneTo n x → OneTo n y → φ x ≡ φ y → x ≡ y)
+    → (y : ℕ) → OneTo n y → (x : ℕ) × OneTo n x × (φ x ≡ y)
 onto n φ into inj y e = go (has? y (image φ n))
   where
-    go : Has y (image φ n) ⊎ (¬ Has y (image φ n)) → (x : ℕ) × Edge n x × (φ x ≡ y)
+    go : Has y (image φ n) ⊎ (¬ Has y (image φ n)) → (x : ℕ) × OneTo n x × (φ x ≡ y)
     go (inl h) = image-from φ n y h
     go (inr h) =
-        let z = pigeons (y ∷ image φ n) (down n) (h, image-apart φ n n (omega arith) inj) sub in
+        let z = pigeons (y ∷ image φ n) (down n) (h, image-distinct φ n n (omega arith) inj) sub in
         let a = image-length φ n in
         let b = length-down n in
         absurd (omega arith)

@@ -1,11 +1,10 @@
 -- Tests on numbers as equations with `true` and `false`, and the same decided.
 use mathlib.Core.Path.{_≡_, refl, sym}
 use mathlib.Core.Logic.{_≢_, _⊎_, inl, inr}
-use mathlib.Core.Bool.{Bool, true, false, true≢false}
+use mathlib.Core.Bool.{Bool, true, false, true≢false, cond}
 use Prim.Native.Nat.{ℕ, _≤_, _<_}
 use native.Mathlib.Omega.{arith}
 use lib.Dec.{T, eqb, leb, ltb, eqb→eq, eqb-refl, leb→le, le→leb, ltb→lt, lt→ltb, nltb→le}
-use Rattle.lists.specs.Lists.{pick}
 
 pub T→true : (b : Bool) → T b → b ≡ true
 T→true true t = refl
@@ -47,9 +46,9 @@ eqb-by x y x′ y′ to from = go (same? x y)
     go (inl e) = rw (e, to e, eqb-same y, eqb-same y′)
     go (inr n) = rw (eqb-ne x y n, eqb-ne x′ y′ (λ e. n (from e)))
 
-pub pick-all {ℓ κ} : {A : Type ℓ} (P : A → Type κ) (b : Bool) (x y : A) → (b ≡ true → P x) → (b ≡ false → P y) → P (pick b x y)
-pick-all P true x y h k = h refl
-pick-all P false x y h k = k refl
+pub cond-all {ℓ κ} : {A : Type ℓ} (P : A → Type κ) (b : Bool) (x y : A) → (b ≡ true → P x) → (b ≡ false → P y) → P (cond b x y)
+cond-all P true x y h k = h refl
+cond-all P false x y h k = k refl
 
 pub lt-true : (d n : ℕ) → d < n → ltb d n ≡ true
 lt-true d n h = T→true (ltb d n) (lt→ltb d n h)
@@ -79,6 +78,6 @@ le-false a b h = not-true (leb a b) (λ e. let i = leb-true a b e in omega arith
 pub eqb-eq : (x y : ℕ) → x ≡ y → eqb x y ≡ true
 eqb-eq x y e = rw e (eqb-same y)
 
-pub both-true : (a b : Bool) → pick a b false ≡ true → (a ≡ true) × (b ≡ true)
+pub both-true : (a b : Bool) → cond a b false ≡ true → (a ≡ true) × (b ≡ true)
 both-true true b e = (refl, e)
 both-true false b e = absurd (true≢false (sym e))

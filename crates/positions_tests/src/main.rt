@@ -1,9 +1,9 @@
 // Count, diagram at a position and position of a diagram, case by case: a line for each. The file stdout was not written by these
 // operations: the counts are the published ones (document 000, Table 6), the listed diagrams those of the census by hand.
 use libc::STDOUT_FILENO;
-use positions::Entry;
-use positions::Place;
-use positions::Total;
+use listing_ranking::Entry;
+use listing_ranking::Place;
+use listing_ranking::Total;
 use words::Lettered;
 ghost use Prim.Native.Nat.{_<_, _≤_};
 ghost use lib.ListN.{length};
@@ -52,7 +52,7 @@ fn count(n: u64) {
     text(b"count of ");
     number(n);
     text(b": ");
-    match positions::count(n) {
+    match listing_ranking::count(n) {
         Total::Number(c) => number(c),
         Total::Refused(k) => refused(k),
     }
@@ -94,7 +94,7 @@ fn diagram(n: u64, p: u64) {
     text(b" of size ");
     number(n);
     text(b": ");
-    match positions::diagram_at(n, p, &mut s0, &mut s1, &mut word) {
+    match listing_ranking::diagram_at(n, p, &mut s0, &mut s1, &mut word) {
         Entry::Length(length) => {
             written(n as usize, length as usize, &s0, &s1, &word);
         }
@@ -129,7 +129,7 @@ fn listings() {
 fn lent(name: &[u8], n: u64, p: u64, s0: &mut [u16], s1: &mut [u16], word: &mut [u16]) {
     text(name);
     text(b": ");
-    match positions::diagram_at(n, p, s0, s1, word) {
+    match listing_ranking::diagram_at(n, p, s0, s1, word) {
         Entry::Length(m) => number(m as u64),
         Entry::Refused(k) => refused(k),
     }
@@ -187,7 +187,7 @@ fn edges() {
 fn place(name: &[u8], s0: &[u16], s1: &[u16], root: u64) {
     text(name);
     text(b": ");
-    match positions::position(s0, s1, root) {
+    match listing_ranking::position(s0, s1, root) {
         Place::Number(p) => number(p),
         Place::Refused(k) => refused(k),
     }
@@ -223,7 +223,7 @@ fn at_the_edge() {
     let mut s0 = [0u16; 51];
     let mut s1 = [0u16; 51];
     let mut word = [0u16; 51];
-    positions::diagram_at(50, 1, &mut s0, &mut s1, &mut word);
+    listing_ranking::diagram_at(50, 1, &mut s0, &mut s1, &mut word);
     place(b"50 edges", &s0[0..50], &s1[0..50], 1);
     s0[50] = 51;
     s1[48] = 51;
@@ -237,7 +237,7 @@ fn at_the_edge() {
 fn back(s0: &[u16], s1: &[u16], p: u64) -> u64
     ensures { λ r. ⌜ r ≤ 1 ⌝ }
 {
-    match positions::position(s0, s1, 1) {
+    match listing_ranking::position(s0, s1, 1) {
         Place::Number(q) => {
             if q == p {
                 return 1;
@@ -255,7 +255,7 @@ fn trip(n: u64, p: u64) -> u64
     let mut s0 = [0u16; 50];
     let mut s1 = [0u16; 50];
     let mut word = [0u16; 51];
-    match positions::diagram_at(n, p, &mut s0, &mut s1, &mut word) {
+    match listing_ranking::diagram_at(n, p, &mut s0, &mut s1, &mut word) {
         Entry::Length(_) => {
             let size = least(n as usize, 50);
             back(&s0[0..size], &s1[0..size], p)
@@ -288,7 +288,7 @@ fn round(n: u64) {
     text(b"there and back, size ");
     number(n);
     text(b": ");
-    match positions::count(n) {
+    match listing_ranking::count(n) {
         Total::Number(c) => {
             if c <= 1000 {
                 number(all_trips(n, c));

@@ -1,7 +1,7 @@
 // Cases of read word (document 01, "Read word"), one line each: the word in letters, the answer, and both lists afterwards.
 // Each list is lent out of a longer array that holds one value throughout; a place that still holds it is printed as a hyphen.
 // So a refusal prints hyphens only, and an acceptance the list with the places around it untouched.
-use reading::Reading;
+use words_reading::Reading;
 ghost use Prim.Native.Nat.{_≤_, _<_, _+_};
 ghost use mathlib.Core.Path.{_≡_};
 ghost use lib.ListN.{length};
@@ -46,7 +46,7 @@ fn print_answer(r: Reading) {
 fn read_within(word: &[u16], a0: &mut [u16], a1: &mut [u16], room0: usize, room1: usize) -> Reading
     requires { ⌜ (room0 < length (now a0)) × (room1 < length (now a1)) ⌝ }
 {
-    reading::read_word(word, &mut a0[1..1 + room0], &mut a1[1..1 + room1])
+    words_reading::read_word(word, &mut a0[1..1 + room0], &mut a1[1..1 + room1])
 }
 
 // A case whose lists are printed whole.

@@ -1,9 +1,9 @@
 // Runs, step by step. Lists are printed whole and hold 7 at first, so that it is seen what a step leaves untouched.
 use libc::STDOUT_FILENO;
-use running::Beginning;
-use running::Run;
-use running::Stepped;
-use running::Stepping;
+use run_steps::Beginning;
+use run_steps::Run;
+use run_steps::Stepped;
+use run_steps::Stepping;
 use words::Lettered;
 ghost use Prim.Native.Nat.{_≤_};
 
@@ -57,7 +57,7 @@ fn letters(word: &[u16]) {
 fn begin(n: u64) -> Run {
     text(b"begin ");
     number(n);
-    let begun = running::begin(n);
+    let begun = run_steps::begin(n);
     let answer = begun.answer;
     match answer {
         Beginning::Begun => text(b": begun\n"),
@@ -83,7 +83,7 @@ fn outcome(given: Stepping) {
 // The same with the word's letters.
 fn answer(given: Stepping, word: &[u16]) {
     if let Stepping::Length(m) = given {
-        let n = lists::wide(m);
+        let n = lists::to_index(m);
         if n <= word.len() {
             letters(&word[..n]);
         }
@@ -99,7 +99,7 @@ fn brief(run: Run, black: usize, white: usize, items: usize) -> Run
     let mut s0 = [7u16; 6];
     let mut s1 = [7u16; 6];
     let mut word = [7u16; 6];
-    let stepped = running::step(run, &mut s0[..black], &mut s1[..white], &mut word[..items]);
+    let stepped = run_steps::step(run, &mut s0[..black], &mut s1[..white], &mut word[..items]);
     let given = stepped.answer;
     outcome(given);
     text(b" ");
@@ -108,7 +108,7 @@ fn brief(run: Run, black: usize, white: usize, items: usize) -> Run
 
 // A step with the lists that it leaves.
 fn full(run: Run, s0: &mut [u16], s1: &mut [u16], word: &mut [u16]) -> Run {
-    let stepped = running::step(run, s0, s1, word);
+    let stepped = run_steps::step(run, s0, s1, word);
     let given = stepped.answer;
     answer(given, word);
     list(s0);
@@ -169,7 +169,7 @@ fn silent(run: Run) -> Stepped {
     let mut s0 = [7u16; 14];
     let mut s1 = [7u16; 14];
     let mut word = [7u16; 15];
-    running::step(run, &mut s0, &mut s1, &mut word)
+    run_steps::step(run, &mut s0, &mut s1, &mut word)
 }
 
 fn report(n: u64, count: u64) {
@@ -182,7 +182,7 @@ fn report(n: u64, count: u64) {
 
 // How many steps of a run give a diagram, if they are fewer than 2,500.
 fn diagrams(n: u64) {
-    let begun = running::begin(n);
+    let begun = run_steps::begin(n);
     let mut run = begun.run;
     let mut k: u64 = 0;
     while k < 2500 {
@@ -219,7 +219,7 @@ fn damaged(name: &[u8], run: Run) {
 
 // The run of size 3 that is at TWWW.
 fn at_first() -> Run {
-    let begun = running::begin(3);
+    let begun = run_steps::begin(3);
     let stepped = silent(begun.run);
     stepped.run
 }
@@ -282,7 +282,7 @@ fn damaged_stages(run: Run) {
     damaged(b"finished with items", r);
     r.stage = 0;
     damaged(b"fresh with items", r);
-    let begun = running::begin(3);
+    let begun = run_steps::begin(3);
     let mut fresh = begun.run;
     fresh.length = 1;
     damaged(b"fresh with length 1", fresh);

@@ -1,6 +1,6 @@
 // The books that cases start from, and single fields of a book, so that one that no call leaves can be tried too.
 use lines::is;
-use sharing::Book;
+use book_lent::Book;
 
 pub fn blank() -> Book {
     let none = [0u64; 32];

@@ -1,12 +1,12 @@
 // A line for each call: what is called, and what it answers. Each hands back the book that the call leaves.
 use libc::STDOUT_FILENO;
-use sharing::Book;
-use sharing::Claiming;
-use sharing::Committing;
-use sharing::Opening;
-use sharing::Releasing;
-use sharing::Reporting;
-use sharing::Taking;
+use book_lent::Book;
+use book_lent::Claiming;
+use book_lent::Committing;
+use book_lent::Opening;
+use book_lent::Releasing;
+use book_lent::Reporting;
+use book_lent::Taking;
 
 fn text(bytes: &[u8]) {
     io::write_all(STDOUT_FILENO, bytes);
@@ -38,7 +38,7 @@ fn list(items: &[u16]) {
 }
 
 pub fn open(what: &[u8], b: Book, size: u64, k: u64) -> Book {
-    let done = lending::open(b, size, k);
+    let done = book_by_value::open(b, size, k);
     text(what);
     let answer = done.answer;
     match answer {
@@ -53,7 +53,7 @@ pub fn open(what: &[u8], b: Book, size: u64, k: u64) -> Book {
 }
 
 pub fn claim(what: &[u8], b: Book, tick: u64, share: u64, length: u64) -> Book {
-    let done = lending::claim(b, tick, share, length);
+    let done = book_by_value::claim(b, tick, share, length);
     text(what);
     text(b": ");
     let answer = done.answer;
@@ -96,7 +96,7 @@ pub fn take(
     s1: &mut [u16],
     word: &mut [u16],
 ) -> Book {
-    let done = lending::take(b, tick, ticket, s0, s1, word);
+    let done = book_by_value::take(b, tick, ticket, s0, s1, word);
     text(what);
     text(b": ");
     let answer = done.answer;
@@ -112,7 +112,7 @@ pub fn take(
 }
 
 pub fn commit(what: &[u8], b: Book, tick: u64, ticket: u64, position: u64) -> Book {
-    let done = lending::commit(b, tick, ticket, position);
+    let done = book_by_value::commit(b, tick, ticket, position);
     text(what);
     let answer = done.answer;
     match answer {
@@ -127,7 +127,7 @@ pub fn commit(what: &[u8], b: Book, tick: u64, ticket: u64, position: u64) -> Bo
 }
 
 pub fn release(what: &[u8], b: Book, tick: u64, ticket: u64) -> Book {
-    let done = lending::release(b, tick, ticket);
+    let done = book_by_value::release(b, tick, ticket);
     text(what);
     let answer = done.answer;
     match answer {
@@ -144,7 +144,7 @@ pub fn release(what: &[u8], b: Book, tick: u64, ticket: u64) -> Book {
 pub fn report(what: &[u8], b: Book) {
     text(what);
     text(b": ");
-    match lending::report(b) {
+    match book_by_value::report(b) {
         Reporting::Progress {
             committed,
             complete,

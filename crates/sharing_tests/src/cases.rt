@@ -10,7 +10,7 @@ use lines::is;
 use lines::number;
 use lines::split;
 use lines::word;
-use sharing::Book;
+use book_lent::Book;
 ghost use Prim.Native.Nat.{_≤_};
 
 fn value(line: &[u8], words: Words, k: usize) -> u64 {

@@ -1,4 +1,4 @@
-// The share book, case by case, lent to each call by crate lending. Each line of standard input is a call with its text, which prints a line,
+// The share book, case by case, lent to each call by crate book_by_value. Each line of standard input is a call with its text, which prints a line,
 // and the book that it leaves is the next line's. The file stdout was written from document 01, by hand. The lines are:
 //
 //   open SIZE K TEXT

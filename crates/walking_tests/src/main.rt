@@ -1,7 +1,7 @@
 // The plain walk, size by size and at the edges of what it takes: one line for each call. Every list is lent full of a number
 // that is no item of a word of these sizes, so what is still there was not touched.
 use libc::STDOUT_FILENO;
-use walking::Walked;
+use listing_plain_walk::Walked;
 ghost use Prim.Native.Nat.{_+_, _*_, _≤_};
 ghost use lib.ListN.{length};
 
@@ -120,7 +120,7 @@ fn walk(size: u64, out: &mut [u16], full: bool) {
     text(b" in ");
     number(out.len());
     text(b" places: ");
-    match walking::plain_walk(size, out) {
+    match listing_plain_walk::plain_walk(size, out) {
         Walked::Numbers(n) => both(out, n, full),
         Walked::Refused(k) => {
             text(b"refused");

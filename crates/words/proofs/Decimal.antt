@@ -7,7 +7,7 @@ use native.Mathlib.Nat.{pow-suc}
 use native.Mathlib.Omega.{arith}
 use lib.ListN.{length, set, length-append, length-set}
 use Rattle.lists.proofs.Tests.{lt?, lt-true, lt-false}
-use Rattle.words.specs.Outputs.{from}
+use Rattle.words.specs.Outputs.{overwriteFrom}
 use Rattle.words.specs.Letters.{digits, decimal}
 use Rattle.words.proofs.Outputs.{from-one, from-last}
 
@@ -74,7 +74,7 @@ pub record Left (d : List ℕ) (i m : ℕ) (e : List ℕ) (end x : ℕ) : Type 0
   pub place : end ≡ i + length (decimal x)
   pub within : end ≤ length d
   pub long : length e ≡ length d
-  pub rest : from i (decimal x) e ≡ from i (decimal m) d
+  pub rest : overwriteFrom i (decimal x) e ≡ overwriteFrom i (decimal m) d
 
 pub left-more : (d : List ℕ) (i m : ℕ) (e : List ℕ) (end x : ℕ) → m < 10 ^ 20 → Left d i m e end x → 10 ≤ x → Left d i m (set e (end - 1) (48 + x % 10)) (end - 1) (x / 10)
 left-more d i m e end x h l s = record {
@@ -82,7 +82,7 @@ left-more d i m e end x h l s = record {
   place = at-end;
   within = omega (arith, l .within);
   long = length-set e (end - 1) (48 + x % 10) ∙ l .long;
-  rest = rw at-end (sym (from-last i (decimal (x / 10)) (48 + x % 10) e (omega (arith, one, l .place, l .within, l .long))) ∙ ap (λ (t : List ℕ). from i t e) (sym (decimal-more x (omega (arith, l .small)) s)) ∙ l .rest);
+  rest = rw at-end (sym (from-last i (decimal (x / 10)) (48 + x % 10) e (omega (arith, one, l .place, l .within, l .long))) ∙ ap (λ (t : List ℕ). overwriteFrom i t e) (sym (decimal-more x (omega (arith, l .small)) s)) ∙ l .rest);
 }
   where
     one : length (decimal x) ≡ suc (length (decimal (x / 10)))
@@ -91,8 +91,8 @@ left-more d i m e end x h l s = record {
     at-end : end - 1 ≡ i + length (decimal (x / 10))
     at-end = omega (arith, one, l .place)
 
-pub left-last : (d : List ℕ) (i m : ℕ) (e : List ℕ) (end x : ℕ) → Left d i m e end x → x < 10 → set e i (48 + x) ≡ from i (decimal m) d
-left-last d i m e end x l s = sym (from-one i (48 + x) e (omega (arith, ap length one, l .place, l .within, l .long))) ∙ ap (λ (t : List ℕ). from i t e) (sym one) ∙ l .rest
+pub left-last : (d : List ℕ) (i m : ℕ) (e : List ℕ) (end x : ℕ) → Left d i m e end x → x < 10 → set e i (48 + x) ≡ overwriteFrom i (decimal m) d
+left-last d i m e end x l s = sym (from-one i (48 + x) e (omega (arith, ap length one, l .place, l .within, l .long))) ∙ ap (λ (t : List ℕ). overwriteFrom i t e) (sym one) ∙ l .rest
   where
     one : decimal x ≡ (48 + x) ∷ []
     one = decimal-small x s

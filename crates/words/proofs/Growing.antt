@@ -1,33 +1,33 @@
 -- A diagram while it is being spelled: what holds of the stack and the lists so far, and what the finished diagram keeps of them.
 use mathlib.Core.Path.{_≡_, refl, sym, _∙_}
 use mathlib.Core.Logic.{_≢_, inl, inr}
-use mathlib.Core.Bool.{Bool, true, false}
+use mathlib.Core.Bool.{Bool, true, false, cond}
 use mathlib.Core.Option.{Option, none, some}
 use mathlib.Core.List.{List, [], _∷_, _++_}
 use Prim.Native.Nat.{ℕ, zero, suc, _+_, _≤_, _<_}
 use native.Mathlib.Omega.{arith}
 use lib.Dec.{ltb}
 use lib.ListN.{length, getD}
-use Rattle.lists.specs.Lists.{pick, at, put, Has, Apart, cut}
-use Rattle.lists.specs.Ranges.{Edge}
-use Rattle.lists.proofs.Lists.{has-getD, cut-has, cut-not, apart-cut, length-cut, length-put, at-put-same, at-put-other, at-left, at-right, length-3, length-1}
-use Rattle.lists.proofs.Ranges.{down-has, apart-down}
+use Rattle.lists.specs.Lists.{at, put, Has, Distinct, removeAt}
+use Rattle.lists.specs.Ranges.{OneTo}
+use Rattle.lists.proofs.Lists.{has-getD, removeAt-has, removeAt-not, distinct-removeAt, length-removeAt, length-put, at-put-same, at-put-other, at-left, at-right, length-3, length-1}
+use Rattle.lists.proofs.Ranges.{down-has, distinct-down}
 use Rattle.lists.proofs.Tests.{ltb-true}
 use Rattle.words.specs.Word.{Pair, spells}
 
 -- what holds of a stack and the maps of the labels given so far
 pub record State (st s0 s1 : List ℕ) : Type 0 where
   pub even : length s1 ≡ length s0
-  pub apart : Apart st
-  pub within : (x : ℕ) → Has x st → Edge (length s0) x
+  pub distinct : Distinct st
+  pub within : (x : ℕ) → Has x st → OneTo (length s0) x
   pub fixed : (x : ℕ) → Has x st → at s1 x ≡ x
 
 -- what the finished diagram keeps of them
 pub record Keeps (st s0 s1 : List ℕ) (D : Pair) : Type 0 where
   pub longer : length s0 ≤ length (D .black)
   pub level : length (D .white) ≡ length (D .black)
-  pub blacks : (x : ℕ) → Edge (length s0) x → at (D .black) x ≡ at s0 x
-  pub whites : (x : ℕ) → Edge (length s0) x → ¬ Has x st → at (D .white) x ≡ at s1 x
+  pub blacks : (x : ℕ) → OneTo (length s0) x → at (D .black) x ≡ at s0 x
+  pub whites : (x : ℕ) → OneTo (length s0) x → ¬ Has x st → at (D .white) x ≡ at s1 x
 
 module _ (k : ℕ) (r s0 s1 : List ℕ) (S : State (k ∷ r) s0 s1) where
   -- the next free label, and the maps after F, B and J
@@ -46,10 +46,10 @@ module _ (k : ℕ) (r s0 s1 : List ℕ) (S : State (k ∷ r) s0 s1) where
   abbrev B1 : List ℕ
   B1 = put s1 k c ++ (k ∷ [])
 
-  pub k-in : Edge (length s0) k
+  pub k-in : OneTo (length s0) k
   k-in = S .within k (inl refl)
 
-  k-in′ : Edge (length s1) k
+  k-in′ : OneTo (length s1) k
   k-in′ = rw (S .even) k-in
 
   put-len : (v : ℕ) → length (put s1 k v) ≡ length s0
@@ -66,13 +66,13 @@ module _ (k : ℕ) (r s0 s1 : List ℕ) (S : State (k ∷ r) s0 s1) where
   k-white v t = at-left (put s1 k v) t k (rw (put-len v) (k-in .1)) ∙ at-put-same s1 k v k-in′
 
   old-r : (x : ℕ) → Has x r → x ≢ k
-  old-r x h e = S .apart .0 (rw e at h)
+  old-r x h e = S .distinct .0 (rw e at h)
 
   pub state-W : State r s0 s1
-  state-W = record { even = S .even; apart = S .apart .1; within = λ x h. S .within x (inr h); fixed = λ x h. S .fixed x (inr h) }
+  state-W = record { even = S .even; distinct = S .distinct .1; within = λ x h. S .within x (inr h); fixed = λ x h. S .fixed x (inr h) }
 
   pub state-F : State (suc (suc c) ∷ suc c ∷ r) F0 F1
-  state-F = record { even = simp (length-3, length-put, S .even); apart = (a1, (a2, S .apart .1)); within = λ x h. rw length-3 (w x h); fixed = fx }
+  state-F = record { even = simp (length-3, length-put, S .even); distinct = (a1, (a2, S .distinct .1)); within = λ x h. rw length-3 (w x h); fixed = fx }
     where
       a2 : ¬ Has (suc c) r
       a2 h = let i = S .within (suc c) (inr h) in omega arith
@@ -81,7 +81,7 @@ module _ (k : ℕ) (r s0 s1 : List ℕ) (S : State (k ∷ r) s0 s1) where
       a1 (inl e) = omega arith
       a1 (inr h) = let i = S .within (suc (suc c)) (inr h) in omega arith
 
-      w : (x : ℕ) → Has x (suc (suc c) ∷ suc c ∷ r) → Edge (suc (suc (suc (length s0)))) x
+      w : (x : ℕ) → Has x (suc (suc c) ∷ suc c ∷ r) → OneTo (suc (suc (suc (length s0)))) x
       w x (inl e) = omega arith
       w x (inr (inl e)) = omega arith
       w x (inr (inr h)) = let i = S .within x (inr h) in omega arith
@@ -92,9 +92,9 @@ module _ (k : ℕ) (r s0 s1 : List ℕ) (S : State (k ∷ r) s0 s1) where
       fx x (inr (inr h)) = old-white c x _ (S .within x (inr h) .1) (old-r x h) ∙ S .fixed x (inr h)
 
   pub state-B : State r B0 B1
-  state-B = record { even = simp (length-1, length-put, S .even); apart = S .apart .1; within = λ x h. rw length-1 (w x h); fixed = λ x h. old-white c x _ (S .within x (inr h) .1) (old-r x h) ∙ S .fixed x (inr h) }
+  state-B = record { even = simp (length-1, length-put, S .even); distinct = S .distinct .1; within = λ x h. rw length-1 (w x h); fixed = λ x h. old-white c x _ (S .within x (inr h) .1) (old-r x h) ∙ S .fixed x (inr h) }
     where
-      w : (x : ℕ) → Has x r → Edge (suc (length s0)) x
+      w : (x : ℕ) → Has x r → OneTo (suc (length s0)) x
       w x h = let i = S .within x (inr h) in omega arith
 
   module _ (D : Pair) where
@@ -104,20 +104,20 @@ module _ (k : ℕ) (r s0 s1 : List ℕ) (S : State (k ∷ r) s0 s1) where
     keeps-F : Keeps (suc (suc c) ∷ suc c ∷ r) F0 F1 D → Keeps (k ∷ r) s0 s1 D
     keeps-F K = record { longer = let i = rw length-3 at (K .longer) in omega arith; level = K .level; blacks = λ x e. K .blacks x (up x e) ∙ at-left s0 _ x (e .1); whites = λ x e n. K .whites x (up x e) (no x e n) ∙ old-white c x _ (e .1) (λ q. n (inl q)) }
       where
-        up : (x : ℕ) → Edge (length s0) x → Edge (length F0) x
+        up : (x : ℕ) → OneTo (length s0) x → OneTo (length F0) x
         up x e = rw length-3 (omega arith)
 
-        no : (x : ℕ) → Edge (length s0) x → ¬ Has x (k ∷ r) → ¬ Has x (suc (suc c) ∷ suc c ∷ r)
+        no : (x : ℕ) → OneTo (length s0) x → ¬ Has x (k ∷ r) → ¬ Has x (suc (suc c) ∷ suc c ∷ r)
         no x e n (inl q) = omega arith
         no x e n (inr (inl q)) = omega arith
         no x e n (inr (inr h)) = n (inr h)
 
     -- what the finished diagram has at the edges that the item speaks of
     pub W-k : Keeps r s0 s1 D → at (D .white) k ≡ k
-    W-k K = K .whites k k-in (S .apart .0) ∙ S .fixed k (inl refl)
+    W-k K = K .whites k k-in (S .distinct .0) ∙ S .fixed k (inl refl)
 
     module _ (K : Keeps (suc (suc c) ∷ suc c ∷ r) F0 F1 D) where
-      F-edge : (x : ℕ) → 1 ≤ x → x ≤ suc (suc c) → Edge (length F0) x
+      F-edge : (x : ℕ) → 1 ≤ x → x ≤ suc (suc c) → OneTo (length F0) x
       F-edge x l u = rw length-3 (l, u)
 
       F-out : (x : ℕ) → x ≤ c → ¬ Has x r → ¬ Has x (suc (suc c) ∷ suc c ∷ r)
@@ -126,7 +126,7 @@ module _ (k : ℕ) (r s0 s1 : List ℕ) (S : State (k ∷ r) s0 s1) where
       F-out x l n (inr (inr h)) = n h
 
       pub F-k : at (D .white) k ≡ c
-      F-k = K .whites k (F-edge k (k-in .0) (let i = k-in in omega arith)) (F-out k (let i = k-in in omega arith) (S .apart .0)) ∙ k-white c _
+      F-k = K .whites k (F-edge k (k-in .0) (let i = k-in in omega arith)) (F-out k (let i = k-in in omega arith) (S .distinct .0)) ∙ k-white c _
 
       pub F-w : at (D .white) c ≡ k
       F-w = K .whites c (F-edge c (omega arith) (omega arith)) (F-out c (omega arith) (λ h. let i = S .within c (inr h) in omega arith)) ∙ new-white c c _ 0 (omega arith)
@@ -141,11 +141,11 @@ module _ (k : ℕ) (r s0 s1 : List ℕ) (S : State (k ∷ r) s0 s1) where
       F-ssc = K .blacks (suc (suc c)) (F-edge (suc (suc c)) (omega arith) (omega arith)) ∙ at-right s0 _ (suc (suc c)) 2 (omega arith)
 
     module _ (K : Keeps r B0 B1 D) where
-      B-edge : (x : ℕ) → 1 ≤ x → x ≤ c → Edge (length B0) x
+      B-edge : (x : ℕ) → 1 ≤ x → x ≤ c → OneTo (length B0) x
       B-edge x l u = rw length-1 (l, u)
 
       pub B-k : at (D .white) k ≡ c
-      B-k = K .whites k (B-edge k (k-in .0) (let i = k-in in omega arith)) (S .apart .0) ∙ k-white c _
+      B-k = K .whites k (B-edge k (k-in .0) (let i = k-in in omega arith)) (S .distinct .0) ∙ k-white c _
 
       pub B-w : at (D .white) c ≡ k
       B-w = K .whites c (B-edge c (omega arith) (omega arith)) (λ h. let i = S .within c (inr h) in omega arith) ∙ new-white c c _ 0 (omega arith)
@@ -156,7 +156,7 @@ module _ (k : ℕ) (r s0 s1 : List ℕ) (S : State (k ∷ r) s0 s1) where
     keeps-B : Keeps r B0 B1 D → Keeps (k ∷ r) s0 s1 D
     keeps-B K = record { longer = let i = rw length-1 at (K .longer) in omega arith; level = K .level; blacks = λ x e. K .blacks x (up x e) ∙ at-left s0 _ x (e .1); whites = λ x e n. K .whites x (up x e) (λ h. n (inr h)) ∙ old-white c x _ (e .1) (λ q. n (inl q)) }
       where
-        up : (x : ℕ) → Edge (length s0) x → Edge (length B0) x
+        up : (x : ℕ) → OneTo (length s0) x → OneTo (length B0) x
         up x e = rw length-1 (omega arith)
 
   module _ (d : ℕ) (l : d < length r) where
@@ -172,7 +172,7 @@ module _ (k : ℕ) (r s0 s1 : List ℕ) (S : State (k ∷ r) s0 s1) where
     pub p-k : p ≢ k
     p-k = old-r p p-has
 
-    pub p-in : Edge (length s0) p
+    pub p-in : OneTo (length s0) p
     p-in = S .within p (inr p-has)
 
     pub J-other : (x : ℕ) → x ≢ k → x ≢ p → at J1 x ≡ at s1 x
@@ -184,35 +184,35 @@ module _ (k : ℕ) (r s0 s1 : List ℕ) (S : State (k ∷ r) s0 s1) where
     pub J-p : at J1 p ≡ k
     J-p = at-put-same (put s1 k p) p k (rw (put-len p) p-in)
 
-    pub cut-p : (x : ℕ) → Has x (cut d r) → x ≢ p
-    cut-p x h e = cut-not d r (S .apart .1) l (rw e at h)
+    pub removeAt-p : (x : ℕ) → Has x (removeAt d r) → x ≢ p
+    removeAt-p x h e = removeAt-not d r (S .distinct .1) l (rw e at h)
 
-    pub state-J : State (cut d r) s0 J1
+    pub state-J : State (removeAt d r) s0 J1
     state-J = record {
       even = simp (length-put, S .even);
-      apart = apart-cut d r (S .apart .1);
-      within = λ x h. S .within x (inr (cut-has d r x h));
-      fixed = λ x h. J-other x (old-r x (cut-has d r x h)) (cut-p x h) ∙ S .fixed x (inr (cut-has d r x h));
+      distinct = distinct-removeAt d r (S .distinct .1);
+      within = λ x h. S .within x (inr (removeAt-has d r x h));
+      fixed = λ x h. J-other x (old-r x (removeAt-has d r x h)) (removeAt-p x h) ∙ S .fixed x (inr (removeAt-has d r x h));
     }
 
-    pub Jd-k : (D : Pair) → Keeps (cut d r) s0 J1 D → at (D .white) k ≡ p
-    Jd-k D K = K .whites k k-in (λ h. S .apart .0 (cut-has d r k h)) ∙ J-k
+    pub Jd-k : (D : Pair) → Keeps (removeAt d r) s0 J1 D → at (D .white) k ≡ p
+    Jd-k D K = K .whites k k-in (λ h. S .distinct .0 (removeAt-has d r k h)) ∙ J-k
 
-    pub Jd-p : (D : Pair) → Keeps (cut d r) s0 J1 D → at (D .white) p ≡ k
-    Jd-p D K = K .whites p p-in (cut-not d r (S .apart .1) l) ∙ J-p
+    pub Jd-p : (D : Pair) → Keeps (removeAt d r) s0 J1 D → at (D .white) p ≡ k
+    Jd-p D K = K .whites p p-in (removeAt-not d r (S .distinct .1) l) ∙ J-p
 
-    keeps-J : (D : Pair) → Keeps (cut d r) s0 J1 D → Keeps (k ∷ r) s0 s1 D
+    keeps-J : (D : Pair) → Keeps (removeAt d r) s0 J1 D → Keeps (k ∷ r) s0 s1 D
     keeps-J D K = record {
       longer = K .longer;
       level = K .level;
       blacks = K .blacks;
-      whites = λ x e n. K .whites x e (λ h. n (inr (cut-has d r x h))) ∙ J-other x (λ q. n (inl q)) (λ q. n (inr (rw q p-has)));
+      whites = λ x e n. K .whites x e (λ h. n (inr (removeAt-has d r x h))) ∙ J-other x (λ q. n (inl q)) (λ q. n (inr (rw q p-has)));
     }
 
 pub none≢some : (D : Pair) → none ≡ some D → ⊥
 none≢some D e = let z : _≡_ {A = ℕ} 0 1 = cc in omega arith
 
-pub picked : (b : Bool) (q : Option Pair) (D : Pair) → pick b q none ≡ some D → (b ≡ true) × (q ≡ some D)
+pub picked : (b : Bool) (q : Option Pair) (D : Pair) → cond b q none ≡ some D → (b ≡ true) × (q ≡ some D)
 picked true q D e = (refl, e)
 picked false q D e = absurd (none≢some D e)
 
@@ -230,9 +230,9 @@ keeps (x ∷ w) [] s0 s1 D S e = absurd (none≢some D e)
 keeps (zero ∷ w) (k ∷ r) s0 s1 D S e = keeps-W k r s0 s1 S D (keeps w r s0 s1 D (state-W k r s0 s1 S) e)
 keeps (suc zero ∷ w) (k ∷ r) s0 s1 D S e = keeps-F k r s0 s1 S D (keeps w _ _ _ D (state-F k r s0 s1 S) e)
 keeps (suc (suc zero) ∷ w) (k ∷ r) s0 s1 D S e = keeps-B k r s0 s1 S D (keeps w _ _ _ D (state-B k r s0 s1 S) e)
-keeps (suc (suc (suc d)) ∷ w) (k ∷ r) s0 s1 D S e = let q = picked (ltb d (length r)) (spells w (cut d r) s0 (put (put s1 k (getD r d 0)) (getD r d 0) k)) D e in
+keeps (suc (suc (suc d)) ∷ w) (k ∷ r) s0 s1 D S e = let q = picked (ltb d (length r)) (spells w (removeAt d r) s0 (put (put s1 k (getD r d 0)) (getD r d 0) k)) D e in
     let l = ltb-true d (length r) (q .0) in
-    keeps-J k r s0 s1 S d l D (keeps w (cut d r) s0 _ D (state-J k r s0 s1 S d l) (q .1))
+    keeps-J k r s0 s1 S d l D (keeps w (removeAt d r) s0 _ D (state-J k r s0 s1 S d l) (q .1))
 
 -- the items are at most the pending labels and the labels still to come
 pub short : (w st s0 s1 : List ℕ) (D : Pair) → spells w st s0 s1 ≡ some D → length w + length s0 ≤ length st + length (D .black)
@@ -247,15 +247,15 @@ short (zero ∷ w) (k ∷ r) s0 s1 D e = let i = short w r s0 s1 D e in omega ar
 short (suc zero ∷ w) (k ∷ r) s0 s1 D e = let i = rw length-3 at (short w _ _ _ D e) in omega arith
 short (suc (suc zero) ∷ w) (k ∷ r) s0 s1 D e = let i = rw length-1 at (short w _ _ _ D e) in omega arith
 short (suc (suc (suc d)) ∷ w) (k ∷ r) s0 s1 D e =
-    let q = picked (ltb d (length r)) (spells w (cut d r) s0 (put (put s1 k (getD r d 0)) (getD r d 0) k)) D e in
-    let i = short w (cut d r) s0 _ D (q .1) in
-    let j = length-cut d r (ltb-true d (length r) (q .0)) in
+    let q = picked (ltb d (length r)) (spells w (removeAt d r) s0 (put (put s1 k (getD r d 0)) (getD r d 0) k)) D e in
+    let i = short w (removeAt d r) s0 _ D (q .1) in
+    let j = length-removeAt d r (ltb-true d (length r) (q .0)) in
     omega arith
 
 pub state-U : State (1 ∷ []) (1 ∷ []) (1 ∷ [])
-state-U = record { even = refl; apart = (λ h. h, tt); within = w; fixed = f }
+state-U = record { even = refl; distinct = (λ h. h, tt); within = w; fixed = f }
   where
-    w : (x : ℕ) → Has x (1 ∷ []) → Edge 1 x
+    w : (x : ℕ) → Has x (1 ∷ []) → OneTo 1 x
     w x (inl e) = omega arith
     w x (inr h) = absurd h
 
@@ -264,7 +264,7 @@ state-U = record { even = refl; apart = (λ h. h, tt); within = w; fixed = f }
     f x (inr h) = absurd h
 
 pub state-T : State (3 ∷ 2 ∷ 1 ∷ []) (2 ∷ 3 ∷ 1 ∷ []) (1 ∷ 2 ∷ 3 ∷ [])
-state-T = record { even = refl; apart = apart-down 3; within = down-has 3; fixed = f }
+state-T = record { even = refl; distinct = distinct-down 3; within = down-has 3; fixed = f }
   where
     f : (x : ℕ) → Has x (3 ∷ 2 ∷ 1 ∷ []) → at (1 ∷ 2 ∷ 3 ∷ []) x ≡ x
     f x (inl e) = rw e

@@ -2,7 +2,7 @@
 -- holds of equal lists alone. Each goes by recursion on both lists, comparing their first items.
 use mathlib.Core.Path.{_≡_, refl, sym, _∙_}
 use mathlib.Core.Logic.{_≢_, _⊎_, inl, inr}
-use mathlib.Core.Bool.{Bool, true, false, true≢false}
+use mathlib.Core.Bool.{Bool, true, false, true≢false, cond}
 use mathlib.Core.List.{List, [], _∷_}
 use Prim.Native.Nat.{ℕ, suc, _+_, _≤_, _<_}
 use native.Mathlib.Numerals.{add-one}
@@ -10,7 +10,6 @@ use native.Mathlib.Omega.{arith}
 use lib.Dec.{eqb, ltb}
 use lib.ListN.{length, getD, take, drop, drop-of-length-le}
 use lib.Seq.{drop-cons}
-use Rattle.lists.specs.Lists.{pick}
 use Rattle.lists.proofs.Tests.{not-true, lt?, lt-true, lt-false, ltb-true, eqb-same, eqb-eq, eqb-ne, eqb-true, both-true}
 use Rattle.words.specs.Order.{Before, precedes, lesser, same}
 
@@ -62,7 +61,7 @@ precedes-true u [] e = absurd (true≢false (sym e))
 precedes-true [] (y ∷ v) e = tt
 precedes-true (x ∷ u) (y ∷ v) e = go (ltb x y) refl e (precedes-true u v)
   where
-    go : (b : Bool) → ltb x y ≡ b → pick b true (pick (eqb x y) (precedes u v) false) ≡ true → (precedes u v ≡ true → Before u v) → Before (x ∷ u) (y ∷ v)
+    go : (b : Bool) → ltb x y ≡ b → cond b true (cond (eqb x y) (precedes u v) false) ≡ true → (precedes u v ≡ true → Before u v) → Before (x ∷ u) (y ∷ v)
     go true t e k = inl (ltb-true x y t)
     go false t e k = let z = both-true (eqb x y) (precedes u v) e in inr (eqb-true x y (z .0), k (z .1))
 
@@ -89,7 +88,7 @@ pub record Least (u v r : List ℕ) : Type 0 where
 pub lesser-least : (u v : List ℕ) → Least u v (lesser u v)
 lesser-least u v = go (precedes v u) refl
   where
-    go : (b : Bool) → precedes v u ≡ b → Least u v (pick b v u)
+    go : (b : Bool) → precedes v u ≡ b → Least u v (cond b v u)
     go true e = record { one = inr refl; first = before-antisym v u (precedes-true v u e); second = before-irrefl v }
     go false e = record { one = inl refl; first = before-irrefl u; second = precedes-false v u e }
 
@@ -105,7 +104,7 @@ precedes-from u v i hu hv e = rw (drop-cons u i 0 hu, drop-cons v i 0 hv, add-on
 pub precedes-by : (u v : List ℕ) (i : ℕ) → i < length u → i < length v → getD u i 0 ≢ getD v i 0 → precedes (drop i u) (drop i v) ≡ ltb (getD u i 0) (getD v i 0)
 precedes-by u v i hu hv n = rw (drop-cons u i 0 hu, drop-cons v i 0 hv, eqb-ne (getD u i 0) (getD v i 0) n) (itself (ltb (getD u i 0) (getD v i 0)))
   where
-    itself : (b : Bool) → pick b true false ≡ b
+    itself : (b : Bool) → cond b true false ≡ b
     itself true = refl
     itself false = refl
 

@@ -6,8 +6,8 @@ use Prim.Native.Nat.{ℕ, zero, suc, _+_, _≤_}
 use native.Mathlib.Omega.{arith}
 use lib.Dec.{ltb}
 use lib.ListN.{length, getD}
-use Rattle.lists.specs.Lists.{put, cut}
-use Rattle.lists.proofs.Lists.{length-cut, length-3, length-1}
+use Rattle.lists.specs.Lists.{put, removeAt}
+use Rattle.lists.proofs.Lists.{length-removeAt, length-3, length-1}
 use Rattle.lists.proofs.Tests.{lt-true, ltb-true}
 use Rattle.words.specs.Shape.{less1, less3, Fits, Word}
 use Rattle.words.specs.Word.{Pair, spells, spell, Spells}
@@ -25,7 +25,7 @@ grows (x ∷ w) [] s0 s1 D e = absurd (none≢some D e)
 grows (zero ∷ w) (k ∷ r) s0 s1 D e = grows w r s0 s1 D e
 grows (suc zero ∷ w) (k ∷ r) s0 s1 D e = let i = rw length-3 at (grows w _ _ _ D e) in omega arith
 grows (suc (suc zero) ∷ w) (k ∷ r) s0 s1 D e = let i = rw length-1 at (grows w _ _ _ D e) in omega arith
-grows (suc (suc (suc d)) ∷ w) (k ∷ r) s0 s1 D e = grows w (cut d r) s0 (put (put s1 k (getD r d 0)) (getD r d 0) k) D (picked (ltb d (length r)) (spells w (cut d r) s0 (put (put s1 k (getD r d 0)) (getD r d 0) k)) D e .1)
+grows (suc (suc (suc d)) ∷ w) (k ∷ r) s0 s1 D e = grows w (removeAt d r) s0 (put (put s1 k (getD r d 0)) (getD r d 0) k) D (picked (ltb d (length r)) (spells w (removeAt d r) s0 (put (put s1 k (getD r d 0)) (getD r d 0) k)) D e .1)
 
 fits : (w st s0 s1 : List ℕ) (D : Pair) (f : ℕ) → spells w st s0 s1 ≡ some D → length (D .black) ≡ length s0 + f → Fits (length st) f w
 unfolding spells
@@ -48,10 +48,10 @@ fits (suc (suc zero) ∷ w) (k ∷ r) s0 s1 D f e n = go f n (rw length-1 at (gr
     go zero n i k = omega arith
     go (suc f) n i k = k f (omega arith)
 fits (suc (suc (suc d)) ∷ w) (k ∷ r) s0 s1 D f e n =
-    let q = picked (ltb d (length r)) (spells w (cut d r) s0 (put (put s1 k (getD r d 0)) (getD r d 0) k)) D e in
+    let q = picked (ltb d (length r)) (spells w (removeAt d r) s0 (put (put s1 k (getD r d 0)) (getD r d 0) k)) D e in
     let l = ltb-true d (length r) (q .0) in
-    let z = length-cut d r l in
-    rw (← z) (omega arith, fits w (cut d r) s0 _ D f (q .1) n)
+    let z = length-removeAt d r l in
+    rw (← z) (omega arith, fits w (removeAt d r) s0 _ D f (q .1) n)
 
 -- and back
 pub record Spelt (w st s0 s1 : List ℕ) (n : ℕ) : Type 0 where
@@ -87,8 +87,8 @@ accepted (suc (suc zero) ∷ w) (k ∷ r) s0 s1 f a = go f a (λ g i. accepted w
     go zero a k = absurd a
     go (suc f) a k = let b = k f a in record { pair = b .pair; spelt = b .spelt; sized = b .sized ∙ rw length-1 (omega arith) }
 accepted (suc (suc (suc d)) ∷ w) (k ∷ r) s0 s1 f a =
-    let z = length-cut d r (a .0) in
-    let b = accepted w (cut d r) s0 (put (put s1 k (getD r d 0)) (getD r d 0) k) f (rw (← z) at (a .1)) in
+    let z = length-removeAt d r (a .0) in
+    let b = accepted w (removeAt d r) s0 (put (put s1 k (getD r d 0)) (getD r d 0) k) f (rw (← z) at (a .1)) in
     record { pair = b .pair; spelt = rw (lt-true d (length r) (a .0)) (b .spelt); sized = b .sized }
 
 pub word-spells : (n : ℕ) (w : List ℕ) → Word n w → Spells n w

@@ -7,9 +7,9 @@ use Prim.Native.Nat.{ℕ, zero, suc, _≤_}
 use native.Mathlib.Omega.{arith}
 use lib.Dec.{ltb}
 use lib.ListN.{length, getD}
-use Rattle.lists.specs.Lists.{at, put, Has, cut}
-use Rattle.lists.specs.Ranges.{Edge}
-use Rattle.lists.proofs.Lists.{cut-other, length-3, length-1}
+use Rattle.lists.specs.Lists.{at, put, Has, removeAt}
+use Rattle.lists.specs.Ranges.{OneTo}
+use Rattle.lists.proofs.Lists.{removeAt-other, length-3, length-1}
 use Rattle.lists.proofs.Ranges.{has-down}
 use Rattle.lists.proofs.Tests.{same?, ltb-true}
 use Rattle.diagrams.specs.Diagram.{Reached, Diagram, here, black, white}
@@ -18,19 +18,19 @@ use Rattle.words.proofs.Growing.{State, keeps, state-W, state-F, state-
 
 -- of the labels up to c, those of st pending
 record Good (f g : ℕ → ℕ) (c : ℕ) (st : List ℕ) : Type 0 where
-  b-in : (x : ℕ) → Edge c x → Edge c (f x)
-  b-3 : (x : ℕ) → Edge c x → f (f (f x)) ≡ x
-  reached : (x : ℕ) → Edge c x → Reached f g 1 x
-  w-in : (x : ℕ) → Edge c x → ¬ Has x st → Edge c (g x)
-  w-2 : (x : ℕ) → Edge c x → ¬ Has x st → g (g x) ≡ x
+  b-in : (x : ℕ) → OneTo c x → OneTo c (f x)
+  b-3 : (x : ℕ) → OneTo c x → f (f (f x)) ≡ x
+  reached : (x : ℕ) → OneTo c x → Reached f g 1 x
+  w-in : (x : ℕ) → OneTo c x → ¬ Has x st → OneTo c (g x)
+  w-2 : (x : ℕ) → OneTo c x → ¬ Has x st → g (g x) ≡ x
 
 data Lies (c x : ℕ) : Type 0 where
-  old : Edge c x → Lies c x
+  old : OneTo c x → Lies c x
   new1 : x ≡ suc c → Lies c x
   new2 : x ≡ suc (suc c) → Lies c x
   new3 : x ≡ suc (suc (suc c)) → Lies c x
 
-lies : (c x : ℕ) → Edge (suc (suc (suc c))) x → Lies c x
+lies : (c x : ℕ) → OneTo (suc (suc (suc c))) x → Lies c x
 lies c x e = go (same? x (suc c)) (same? x (suc (suc c))) (same? x (suc (suc (suc c))))
   where
     go : (x ≡ suc c) ⊎ (x ≢ suc c) → (x ≡ suc (suc c)) ⊎ (x ≢ suc (suc c)) → (x ≡ suc (suc (suc c))) ⊎ (x ≢ suc (suc (suc c))) → Lies c x
@@ -39,30 +39,30 @@ lies c x e = go (same? x (suc c)) (same? x (suc (suc c))) (same? x (suc (suc (su
     go (inr a) (inr b) (inl d) = new3 d
     go (inr a) (inr b) (inr d) = old (omega arith)
 
-module _ (f g : ℕ → ℕ) (c k : ℕ) (r : List ℕ) (G : Good f g c (k ∷ r)) (i : Edge c k) where
+module _ (f g : ℕ → ℕ) (c k : ℕ) (r : List ℕ) (G : Good f g c (k ∷ r)) (i : OneTo c k) where
   good-W : g k ≡ k → Good f g c r
   good-W e = record { b-in = G .b-in; b-3 = G .b-3; reached = G .reached; w-in = λ x j m. a x j m (same? x k); w-2 = λ x j m. b x j m (same? x k) }
     where
-      a : (x : ℕ) → Edge c x → ¬ Has x r → (x ≡ k) ⊎ (x ≢ k) → Edge c (g x)
+      a : (x : ℕ) → OneTo c x → ¬ Has x r → (x ≡ k) ⊎ (x ≢ k) → OneTo c (g x)
       a x j m (inl q) = rw (q, e) i
       a x j m (inr q) = G .w-in x j (⊎-elim q m)
 
-      b : (x : ℕ) → Edge c x → ¬ Has x r → (x ≡ k) ⊎ (x ≢ k) → g (g x) ≡ x
+      b : (x : ℕ) → OneTo c x → ¬ Has x r → (x ≡ k) ⊎ (x ≢ k) → g (g x) ≡ x
       b x j m (inl q) = rw (q, e, e)
       b x j m (inr q) = G .w-2 x j (⊎-elim q m)
 
-  good-J : (d p : ℕ) → getD r d 0 ≡ p → Edge c p → g k ≡ p → g p ≡ k → Good f g c (cut d r)
+  good-J : (d p : ℕ) → getD r d 0 ≡ p → OneTo c p → g k ≡ p → g p ≡ k → Good f g c (removeAt d r)
   good-J d p y z u v = record { b-in = G .b-in; b-3 = G .b-3; reached = G .reached; w-in = λ x j m. a x j m (same? x k) (same? x p); w-2 = λ x j m. b x j m (same? x k) (same? x p) }
     where
-      out : (x : ℕ) → ¬ Has x (cut d r) → x ≢ k → x ≢ p → ¬ Has x (k ∷ r)
-      out x m q s = ⊎-elim q (λ h. m (cut-other d r x h (rw y s)))
+      out : (x : ℕ) → ¬ Has x (removeAt d r) → x ≢ k → x ≢ p → ¬ Has x (k ∷ r)
+      out x m q s = ⊎-elim q (λ h. m (removeAt-other d r x h (rw y s)))
 
-      a : (x : ℕ) → Edge c x → ¬ Has x (cut d r) → (x ≡ k) ⊎ (x ≢ k) → (x ≡ p) ⊎ (x ≢ p) → Edge c (g x)
+      a : (x : ℕ) → OneTo c x → ¬ Has x (removeAt d r) → (x ≡ k) ⊎ (x ≢ k) → (x ≡ p) ⊎ (x ≢ p) → OneTo c (g x)
       a x j m (inl q) s = rw (q, u) z
       a x j m (inr q) (inl s) = rw (s, v) i
       a x j m (inr q) (inr s) = G .w-in x j (out x m q s)
 
-      b : (x : ℕ) → Edge c x → ¬ Has x (cut d r) → (x ≡ k) ⊎ (x ≢ k) → (x ≡ p) ⊎ (x ≢ p) → g (g x) ≡ x
+      b : (x : ℕ) → OneTo c x → ¬ Has x (removeAt d r) → (x ≡ k) ⊎ (x ≢ k) → (x ≡ p) ⊎ (x ≢ p) → g (g x) ≡ x
       b x j m (inl q) s = rw (q, u, v)
       b x j m (inr q) (inl s) = rw (s, v, u)
       b x j m (inr q) (inr s) = G .w-2 x j (out x m q s)
@@ -72,24 +72,24 @@ module _ (f g : ℕ → ℕ) (c k : ℕ) (r : List ℕ) (G : Good f g c (k ∷ r
     good-B : f (suc c) ≡ suc c → Good f g (suc c) r
     good-B e = record { b-in = λ x j. bi x j (same? x (suc c)); b-3 = λ x j. b3 x j (same? x (suc c)); reached = λ x j. re x j (same? x (suc c)); w-in = λ x j m. wi x j m (same? x (suc c)) (same? x k); w-2 = λ x j m. w2 x j m (same? x (suc c)) (same? x k) }
       where
-        bi : (x : ℕ) → Edge (suc c) x → (x ≡ suc c) ⊎ (x ≢ suc c) → Edge (suc c) (f x)
+        bi : (x : ℕ) → OneTo (suc c) x → (x ≡ suc c) ⊎ (x ≢ suc c) → OneTo (suc c) (f x)
         bi x j (inl q) = rw (q, e) (omega arith)
         bi x j (inr q) = let z = G .b-in x (omega arith) in omega arith
 
-        b3 : (x : ℕ) → Edge (suc c) x → (x ≡ suc c) ⊎ (x ≢ suc c) → f (f (f x)) ≡ x
+        b3 : (x : ℕ) → OneTo (suc c) x → (x ≡ suc c) ⊎ (x ≢ suc c) → f (f (f x)) ≡ x
         b3 x j (inl q) = rw (q, e, e, e)
         b3 x j (inr q) = G .b-3 x (omega arith)
 
-        re : (x : ℕ) → Edge (suc c) x → (x ≡ suc c) ⊎ (x ≢ suc c) → Reached f g 1 x
+        re : (x : ℕ) → OneTo (suc c) x → (x ≡ suc c) ⊎ (x ≢ suc c) → Reached f g 1 x
         re x j (inl q) = rw (q, ← u) (white (G .reached k i))
         re x j (inr q) = G .reached x (omega arith)
 
-        wi : (x : ℕ) → Edge (suc c) x → ¬ Has x r → (x ≡ suc c) ⊎ (x ≢ suc c) → (x ≡ k) ⊎ (x ≢ k) → Edge (suc c) (g x)
+        wi : (x : ℕ) → OneTo (suc c) x → ¬ Has x r → (x ≡ suc c) ⊎ (x ≢ suc c) → (x ≡ k) ⊎ (x ≢ k) → OneTo (suc c) (g x)
         wi x j m (inl q) s = rw (q, v) (omega arith)
         wi x j m (inr q) (inl s) = rw (s, u) (omega arith)
         wi x j m (inr q) (inr s) = let z = G .w-in x (omega arith) (⊎-elim s m) in omega arith
 
-        w2 : (x : ℕ) → Edge (suc c) x → ¬ Has x r → (x ≡ suc c) ⊎ (x ≢ suc c) → (x ≡ k) ⊎ (x ≢ k) → g (g x) ≡ x
+        w2 : (x : ℕ) → OneTo (suc c) x → ¬ Has x r → (x ≡ suc c) ⊎ (x ≢ suc c) → (x ≡ k) ⊎ (x ≢ k) → g (g x) ≡ x
         w2 x j m (inl q) s = rw (q, v, u)
         w2 x j m (inr q) (inl s) = rw (s, u, v)
         w2 x j m (inr q) (inr s) = G .w-2 x (omega arith) (⊎-elim s m)
@@ -103,7 +103,7 @@ module _ (f g : ℕ → ℕ) (c k : ℕ) (r : List ℕ) (G : Good f g c (k ∷ r
         st : List ℕ
         st = suc (suc (suc c)) ∷ suc (suc c) ∷ r
 
-        bi : (x : ℕ) → Lies c x → Edge n (f x)
+        bi : (x : ℕ) → Lies c x → OneTo n (f x)
         bi x (old j) = let z = G .b-in x j in omega arith
         bi x (new1 q) = rw (q, e1) (omega arith)
         bi x (new2 q) = rw (q, e2) (omega arith)
@@ -127,7 +127,7 @@ module _ (f g : ℕ → ℕ) (c k : ℕ) (r : List ℕ) (G : Good f g c (k ∷ r
         re x (new2 q) = rw q r2
         re x (new3 q) = rw (q, ← e2) (black r2)
 
-        wi : (x : ℕ) → ¬ Has x st → Lies c x → (x ≡ k) ⊎ (x ≢ k) → Edge n (g x)
+        wi : (x : ℕ) → ¬ Has x st → Lies c x → (x ≡ k) ⊎ (x ≢ k) → OneTo n (g x)
         wi x m (old j) (inl s) = rw (s, u) (omega arith)
         wi x m (old j) (inr s) = let z = G .w-in x j (⊎-elim s (λ h. m (inr (inr h)))) in omega arith
         wi x m (new1 q) s = rw (q, v) (omega arith)
@@ -161,22 +161,22 @@ good (suc (suc zero) ∷ w) (k ∷ r) s0 s1 D S e G =
     let K = keeps w _ _ _ D T e in
     good w _ _ _ D T e (rw length-1 (good-B _ _ (length s0) k r G (k-in k r s0 s1 S) (B-k k r s0 s1 S D K) (B-w k r s0 s1 S D K) (B-c k r s0 s1 S D K)))
 good (suc (suc (suc d)) ∷ w) (k ∷ r) s0 s1 D S e G =
-    let q = picked (ltb d (length r)) (spells w (cut d r) s0 (put (put s1 k (getD r d 0)) (getD r d 0) k)) D e in
+    let q = picked (ltb d (length r)) (spells w (removeAt d r) s0 (put (put s1 k (getD r d 0)) (getD r d 0) k)) D e in
     let l = ltb-true d (length r) (q .0) in
     let T = state-J k r s0 s1 S d l in
-    let K = keeps w (cut d r) s0 _ D T (q .1) in
-    good w (cut d r) s0 _ D T (q .1) (good-J _ _ (length s0) k r G (k-in k r s0 s1 S) d (getD r d 0) refl (p-in k r s0 s1 S d l) (Jd-k k r s0 s1 S d l D K) (Jd-p k r s0 s1 S d l D K))
+    let K = keeps w (removeAt d r) s0 _ D T (q .1) in
+    good w (removeAt d r) s0 _ D T (q .1) (good-J _ _ (length s0) k r G (k-in k r s0 s1 S) d (getD r d 0) refl (p-in k r s0 s1 S d l) (Jd-k k r s0 s1 S d l D K) (Jd-p k r s0 s1 S d l D K))
 
 good-1 : (f g : ℕ → ℕ) → f 1 ≡ 1 → Good f g 1 (1 ∷ [])
 good-1 f g e = record { b-in = λ x j. rw (is x j, e) (omega arith); b-3 = λ x j. rw (is x j, e, e, e); reached = λ x j. rw (is x j) here; w-in = λ x j m. absurd (m (inl (is x j))); w-2 = λ x j m. absurd (m (inl (is x j))) }
   where
-    is : (x : ℕ) → Edge 1 x → x ≡ 1
+    is : (x : ℕ) → OneTo 1 x → x ≡ 1
     is x j = omega arith
 
 good-3 : (f g : ℕ → ℕ) → f 1 ≡ 2 → f 2 ≡ 3 → f 3 ≡ 1 → Good f g 3 (3 ∷ 2 ∷ 1 ∷ [])
 good-3 f g e1 e2 e3 = record { b-in = λ x j. bi x (lies 0 x j); b-3 = λ x j. b3 x (lies 0 x j); reached = λ x j. re x (lies 0 x j); w-in = λ x j m. absurd (m (has-down 3 x j)); w-2 = λ x j m. absurd (m (has-down 3 x j)) }
   where
-    bi : (x : ℕ) → Lies 0 x → Edge 3 (f x)
+    bi : (x : ℕ) → Lies 0 x → OneTo 3 (f x)
     bi x (old j) = absurd (omega arith)
     bi x (new1 q) = rw (q, e1) (omega arith)
     bi x (new2 q) = rw (q, e2) (omega arith)

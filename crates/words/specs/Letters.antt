@@ -2,22 +2,21 @@
 --
 --   digits k m            the digits of m, the highest first, where there are at most k; otherwise the k lowest
 --   decimal m             m in decimal, for a number of 64 bits or fewer
---   Wrote d i s r e       s was written over d from place i on, which left e; r is the place after s
---   Put d i s r e         the same where s fits; where it does not, e is d and r is i
+--   BytesWritten d i s r e       s was written over d from place i on, which left e; r is the place after s
+--   BytesPut d i s r e         the same where s fits; where it does not, e is d and r is i
 --   letters w             U or T, then for each item W, F, B or J with d in decimal; a first item above 1 has no letter
---   opens w               w has no item, or a first item that is 0 or 1
---   lettering w n         the answer of `letters` on room for n bytes: 22 where the first item is not 0 or 1, then 9 where the room is short,
+--   startsWithRoot w               w has no item, or a first item that is 0 or 1
+--   lettersAnswer w n         the answer of `letters` on room for n bytes: 22 where the first item is not 0 or 1, then 9 where the room is short,
 --                         otherwise the number of letters
---   Room r w d e          the room d before is e after the answer r: the letters and then the rest of d, or d where it refuses
---   Lettering w d r e     the promise of `letters`: that answer, and that room
+--   LettersAfter r w d e          the room d before is e after the answer r: the letters and then the rest of d, or d where it refuses
+--   LettersPromise w d r e     the promise of `letters`: that answer, and that room
 use mathlib.Core.Path.{_≡_}
-use mathlib.Core.Bool.{Bool, true}
+use mathlib.Core.Bool.{Bool, true, cond}
 use mathlib.Core.List.{List, [], _∷_, _++_}
 use Prim.Native.Nat.{ℕ, zero, suc, _+_, _/_, _%_}
 use lib.Dec.{leb, ltb}
 use lib.ListN.{length, drop}
-use Rattle.lists.specs.Lists.{pick}
-use Rattle.words.specs.Outputs.{from}
+use Rattle.words.specs.Outputs.{overwriteFrom}
 use Rattle.words.specs.declared.Lettered.{Lettered}
 use Rattle.words.specs.declared.Lettered.the-variants.{Length, Refused}
 
@@ -25,7 +24,7 @@ use Rattle.words.specs.declared.Lettered.the-variants.{Length, Refused}
 
 unfoldable pub digits : ℕ → ℕ → List ℕ
 digits zero m = []
-digits (suc k) m = let r = digits k (m / 10) in pick (ltb m 10) ((48 + m) ∷ []) (r ++ ((48 + m % 10) ∷ []))
+digits (suc k) m = let r = digits k (m / 10) in cond (ltb m 10) ((48 + m) ∷ []) (r ++ ((48 + m % 10) ∷ []))
 
 -- twenty digits are enough: a number of 64 bits is below 10 ^ 20
 unfoldable pub decimal : ℕ → List ℕ
@@ -33,13 +32,13 @@ decimal m = digits 20 m
 
 -- ---- writing at a place
 
-pub record Wrote (d : List ℕ) (i : ℕ) (s : List ℕ) (r : ℕ) (e : List ℕ) : Type 0 where
+pub record BytesWritten (d : List ℕ) (i : ℕ) (s : List ℕ) (r : ℕ) (e : List ℕ) : Type 0 where
   pub next : r ≡ i + length s
-  pub bytes : e ≡ from i s d
+  pub bytes : e ≡ overwriteFrom i s d
 
-pub record Put (d : List ℕ) (i : ℕ) (s : List ℕ) (r : ℕ) (e : List ℕ) : Type 0 where
-  pub next : r ≡ pick (leb (i + length s) (length d)) (i + length s) i
-  pub bytes : e ≡ pick (leb (i + length s) (length d)) (from i s d) d
+pub record BytesPut (d : List ℕ) (i : ℕ) (s : List ℕ) (r : ℕ) (e : List ℕ) : Type 0 where
+  pub next : r ≡ cond (leb (i + length s) (length d)) (i + length s) i
+  pub bytes : e ≡ cond (leb (i + length s) (length d)) (overwriteFrom i s d) d
 
 -- ---- words
 
@@ -64,17 +63,17 @@ unfoldable pub letters : List ℕ → List ℕ
 letters [] = []
 letters (x ∷ w) = first-letter x ++ events-letters w
 
-abbrev pub opens : List ℕ → Bool
-opens [] = true
-opens (x ∷ w) = ltb x 2
+abbrev pub startsWithRoot : List ℕ → Bool
+startsWithRoot [] = true
+startsWithRoot (x ∷ w) = ltb x 2
 
-abbrev pub lettering : List ℕ → ℕ → Lettered
-lettering w n = pick (opens w) (pick (leb (length (letters w)) n) (Length (length (letters w))) (Refused 9)) (Refused 22)
+abbrev pub lettersAnswer : List ℕ → ℕ → Lettered
+lettersAnswer w n = cond (startsWithRoot w) (cond (leb (length (letters w)) n) (Length (length (letters w))) (Refused 9)) (Refused 22)
 
-abbrev pub Room : Lettered → List ℕ → List ℕ → List ℕ → Type 0
-Room (Length n) w d e = e ≡ letters w ++ drop n d
-Room (Refused k) w d e = e ≡ d
+abbrev pub LettersAfter : Lettered → List ℕ → List ℕ → List ℕ → Type 0
+LettersAfter (Length n) w d e = e ≡ letters w ++ drop n d
+LettersAfter (Refused k) w d e = e ≡ d
 
-pub record Lettering (w d : List ℕ) (r : Lettered) (e : List ℕ) : Type 0 where
-  pub answer : r ≡ lettering w (length d)
-  pub room : Room r w d e
+pub record LettersPromise (w d : List ℕ) (r : Lettered) (e : List ℕ) : Type 0 where
+  pub answer : r ≡ lettersAnswer w (length d)
+  pub room : LettersAfter r w d e

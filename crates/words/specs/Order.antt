@@ -6,11 +6,10 @@
 --   same u v          the two lists are the same, as a test
 use mathlib.Core.Path.{_≡_}
 use mathlib.Core.Logic.{_⊎_}
-use mathlib.Core.Bool.{Bool, true, false}
+use mathlib.Core.Bool.{Bool, true, false, cond}
 use mathlib.Core.List.{List, [], _∷_}
 use Prim.Native.Nat.{ℕ, _<_}
 use lib.Dec.{eqb, ltb}
-use Rattle.lists.specs.Lists.{pick}
 
 abbrev pub Before : List ℕ → List ℕ → Type 0
 Before u [] = ⊥
@@ -20,13 +19,13 @@ Before (x ∷ u) (y ∷ v) = (x < y) ⊎ ((x ≡ y) × Before u v)
 abbrev pub precedes : List ℕ → List ℕ → Bool
 precedes u [] = false
 precedes [] (y ∷ v) = true
-precedes (x ∷ u) (y ∷ v) = pick (ltb x y) true (pick (eqb x y) (precedes u v) false)
+precedes (x ∷ u) (y ∷ v) = cond (ltb x y) true (cond (eqb x y) (precedes u v) false)
 
 abbrev pub lesser : List ℕ → List ℕ → List ℕ
-lesser u v = pick (precedes v u) v u
+lesser u v = cond (precedes v u) v u
 
 abbrev pub same : List ℕ → List ℕ → Bool
 same [] [] = true
 same [] (y ∷ v) = false
 same (x ∷ u) [] = false
-same (x ∷ u) (y ∷ v) = pick (eqb x y) (same u v) false
+same (x ∷ u) (y ∷ v) = cond (eqb x y) (same u v) false

@@ -1,8 +1,8 @@
 -- Lists that an operation writes to (document 01: "An accepted write fills the first places it needs; the rest is untouched").
 -- Lists named a are as they were lent, lists named b as they are handed back.
 --
---   over x a              the list a with x written over its beginning
---   from i x a            the list a with x written over it from place i on; places go from 0
+--   overwrite x a              the list a with x written over its beginning
+--   overwriteFrom i x a            the list a with x written over it from place i on; places go from 0
 --   Short n a0 a1 aw      an output list is short for a diagram of n edges and its word: n, n, and n + 1 (refusal 9)
 --   Written D w ..        the lists hold the diagram D and the word w, and after them what they held
 --   Untouched ..          the lists are as they were
@@ -13,19 +13,19 @@ use Prim.Native.Nat.{ℕ, suc, _+_, _<_}
 use lib.ListN.{length, take, drop}
 use Rattle.words.specs.Word.{Pair}
 
-abbrev pub over : List ℕ → List ℕ → List ℕ
-over x a = x ++ drop (length x) a
+abbrev pub overwrite : List ℕ → List ℕ → List ℕ
+overwrite x a = x ++ drop (length x) a
 
-unfoldable pub from : ℕ → List ℕ → List ℕ → List ℕ
-from i x a = take i a ++ (x ++ drop (i + length x) a)
+unfoldable pub overwriteFrom : ℕ → List ℕ → List ℕ → List ℕ
+overwriteFrom i x a = take i a ++ (x ++ drop (i + length x) a)
 
 abbrev pub Short : ℕ → List ℕ → List ℕ → List ℕ → Type 0
 Short n a0 a1 aw = (length a0 < n) ⊎ ((length a1 < n) ⊎ (length aw < suc n))
 
 pub record Written (D : Pair) (w a0 a1 aw b0 b1 bw : List ℕ) : Type 0 where
-  pub s0-written : b0 ≡ over (D .black) a0
-  pub s1-written : b1 ≡ over (D .white) a1
-  pub word-written : bw ≡ over w aw
+  pub s0-written : b0 ≡ overwrite (D .black) a0
+  pub s1-written : b1 ≡ overwrite (D .white) a1
+  pub word-written : bw ≡ overwrite w aw
 
 pub record Untouched (a0 a1 aw b0 b1 bw : List ℕ) : Type 0 where
   pub s0-same : b0 ≡ a0

@@ -8,12 +8,13 @@
 --   spell w                       the diagram that the word w spells; none where it spells none
 --   Spells n w                    w spells a diagram of n edges
 use mathlib.Core.Path.{_≡_}
+use mathlib.Core.Bool.{cond}
 use mathlib.Core.Option.{Option, none, some}
 use mathlib.Core.List.{List, [], _∷_, _++_}
 use Prim.Native.Nat.{ℕ, zero, suc}
 use lib.Dec.{ltb}
 use lib.ListN.{length, getD}
-use Rattle.lists.specs.Lists.{pick, put, cut}
+use Rattle.lists.specs.Lists.{put, removeAt}
 
 pub record Pair : Type 0 where
   pub black : List ℕ
@@ -37,8 +38,8 @@ spells (suc (suc zero) ∷ w) (k ∷ r) s0 s1 =
 -- Jd: k's partner is the pending label d places below the top, k being popped already; it is taken out of the stack
 spells (suc (suc (suc d)) ∷ w) (k ∷ r) s0 s1 =
     let p = getD r d 0 in
-    let q = spells w (cut d r) s0 (put (put s1 k p) p k) in
-    pick (ltb d (length r)) q none
+    let q = spells w (removeAt d r) s0 (put (put s1 k p) p k) in
+    cond (ltb d (length r)) q none
 
 unfoldable pub spell : List ℕ → Option Pair
 spell [] = none

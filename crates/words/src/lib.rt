@@ -1,12 +1,12 @@
 // Words: their dictionary order and their letters; and decimals, which letters have. (What a word spells: specs/Word.antt.)
 ghost use mathlib.Core.Path.{_≡_};
+ghost use mathlib.Core.Bool.{cond};
 ghost use mathlib.Core.List.{_∷_, []};
 ghost use Prim.Native.Nat.{_+_, _≤_, _<_};
 ghost use lib.Dec.{leb};
 ghost use lib.ListN.{length};
-ghost use Rattle.lists.specs.Lists.{pick};
 ghost use Rattle.words.specs.Order.{precedes, lesser};
-ghost use Rattle.words.specs.Letters.{decimal, Wrote, Put, first-letter, event-letters, events-letters, Lettering};
+ghost use Rattle.words.specs.Letters.{decimal, BytesWritten, BytesPut, first-letter, event-letters, events-letters, LettersPromise};
 
 // Whether a comes before b in dictionary order.
 pub fn precedes(a: &[u16], b: &[u16]) -> bool
@@ -29,7 +29,7 @@ pub fn precedes(a: &[u16], b: &[u16]) -> bool
 
 // The smaller of two lent lists, itself handed back and not a copy; on equality the first.
 pub fn lesser<'a>(a: &'a [u16], b: &'a [u16]) -> &'a [u16]
-    ensures which { λ r. ⌜ r ≡ pick (precedes (now (b .entry)) (now (a .entry))) (b .entry) (a .entry) ⌝ }
+    ensures which { λ r. ⌜ r ≡ cond (precedes (now (b .entry)) (now (a .entry))) (b .entry) (a .entry) ⌝ }
     ensures items { λ r. ⌜ now r ≡ lesser (now (a .entry)) (now (b .entry)) ⌝ }
 {
     if precedes(b, a) {
@@ -54,7 +54,7 @@ fn decimal_length(m: u64) -> usize
 // Writes m in decimal at a place of out and returns the place after it. Where it does not fit, it writes nothing and returns
 // the place itself.
 pub fn put_decimal(out: &mut [u8], at: usize, m: u64) -> usize
-    ensures { λ r. ⌜ Put (now (out .entry)) at (decimal m) r (now (out .exit)) ⌝ }
+    ensures { λ r. ⌜ BytesPut (now (out .entry)) at (decimal m) r (now (out .exit)) ⌝ }
 {
     let n = decimal_length(m);
     if out.len() < at {
@@ -130,7 +130,7 @@ fn events_fit(items: &[u16], room: usize) -> bool
 // Writes the letters of an event at a place and returns the place after them.
 fn put_event(out: &mut [u8], at: usize, x: u16) -> usize
     requires { ⌜ at + length (event-letters x) ≤ length (now out) ⌝ }
-    ensures { λ r. ⌜ Wrote (now (out .entry)) at (event-letters x) r (now (out .exit)) ⌝ }
+    ensures { λ r. ⌜ BytesWritten (now (out .entry)) at (event-letters x) r (now (out .exit)) ⌝ }
 {
     if x < 3 {
         out[at] = event_letter(x);
@@ -143,7 +143,7 @@ fn put_event(out: &mut [u8], at: usize, x: u16) -> usize
 // The same for events one after another.
 fn put_events(out: &mut [u8], at: usize, items: &[u16]) -> usize
     requires { ⌜ at + length (events-letters (now items)) ≤ length (now out) ⌝ }
-    ensures { λ r. ⌜ Wrote (now (out .entry)) at (events-letters (now (items .entry))) r (now (out .exit)) ⌝ }
+    ensures { λ r. ⌜ BytesWritten (now (out .entry)) at (events-letters (now (items .entry))) r (now (out .exit)) ⌝ }
 {
     let mut next = at;
     let mut i: usize = 0;
@@ -157,7 +157,7 @@ fn put_events(out: &mut [u8], at: usize, items: &[u16]) -> usize
 // The letters of a word from its first item on, which has one. Nothing is written before it is known that all of them fit.
 fn put_letters(out: &mut [u8], x: u16, items: &[u16]) -> Lettered
     requires { ⌜ x < 2 ⌝ }
-    ensures { λ r. ⌜ Lettering (x ∷ now (items .entry)) (now (out .entry)) r (now (out .exit)) ⌝ }
+    ensures { λ r. ⌜ LettersPromise (x ∷ now (items .entry)) (now (out .entry)) r (now (out .exit)) ⌝ }
 {
     if out.len() == 0 {
         return Lettered::Refused(9);
@@ -173,7 +173,7 @@ fn put_letters(out: &mut [u8], x: u16, items: &[u16]) -> Lettered
 // Writes the letters of a word at the beginning of out and answers how many they are. Refuses 22 a first item that is not 0 or 1,
 // then 9 an out that is short. The empty word has no letters.
 pub fn letters(word: &[u16], out: &mut [u8]) -> Lettered
-    ensures { λ r. ⌜ Lettering (now (word .entry)) (now (out .entry)) r (now (out .exit)) ⌝ }
+    ensures { λ r. ⌜ LettersPromise (now (word .entry)) (now (out .entry)) r (now (out .exit)) ⌝ }
 {
     if word.len() == 0 {
         return Lettered::Length(0);

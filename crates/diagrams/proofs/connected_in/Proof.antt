@@ -25,20 +25,20 @@ loop-holds c =
     let r = c .before .before .before .before .reach .ensures in
     (search needs, search needs, r .0, rw (r .1) (found-first _ _))
 
-mul-wide : tie.Need-mul-wide Inv-loop μ-loop
-mul-wide c = search needs
+mul-to-index : tie.Need-mul-to-index Inv-loop μ-loop
+mul-to-index c = search needs
 
-slice-read-wide : tie.Need-slice-read-wide Inv-loop μ-loop
-slice-read-wide c = search needs
+slice-read-to-index : tie.Need-slice-read-to-index Inv-loop μ-loop
+slice-read-to-index c = search needs
 
-wide-requires : tie.Need-wide-requires Inv-loop μ-loop
-wide-requires c κs = search needs
+to-index-requires : tie.Need-to-index-requires Inv-loop μ-loop
+to-index-requires c κs = search needs
 
 visit-requires : tie.Need-visit-requires Inv-loop μ-loop
 visit-requires c κs =
     let m = c .before .before .before .before .before .before .before .before .before .before .before .before .before .before .before .before .before .pre .0 in
     let i = c .before .before .before .before .before .loop .inv in
-    (m, (search needs, (rw (c .before .before .wide .ensures) (listed-edge m (i .2) (i .3) (c .before .before .before .before .loop-test .taken)), i .2)))
+    (m, (search needs, (rw (c .before .before .to-index .ensures) (listed-edge m (i .2) (i .3) (c .before .before .before .before .loop-test .taken)), i .2)))
 
 add-done : tie.Need-add-done Inv-loop μ-loop
 add-done c = search needs
@@ -51,7 +51,7 @@ loop-again c =
     let m = c .before .before .before .before .before .before .before .before .before .before .before .before .before .before .before .before .before .before .before .before .before .before .pre .0 in
     let i = c .before .before .before .before .before .before .before .before .before .before .loop .inv in
     let v = c .before .before .before .before .visit .ensures in
-    (search needs, search needs, v .0, rw (v .1, c .before .before .before .before .before .before .before .wide .ensures) (found-next m (i .2) (i .3) (c .before .before .before .before .before .before .before .before .before .loop-test .taken)))
+    (search needs, search needs, v .0, rw (v .1, c .before .before .before .before .before .before .before .to-index .ensures) (found-next m (i .2) (i .3) (c .before .before .before .before .before .before .before .before .before .loop-test .taken)))
 
 slice-reshare-prefix-all-reached : tie.Need-slice-reshare-prefix-all-reached Inv-loop μ-loop
 slice-reshare-prefix-all-reached c = search needs
@@ -82,9 +82,9 @@ connected-in-spec =
     μ-loop
     reach-requires
     loop-holds
-    mul-wide
-    slice-read-wide
-    wide-requires
+    mul-to-index
+    slice-read-to-index
+    to-index-requires
     visit-requires
     add-done
     loop-less

@@ -2,14 +2,14 @@
 use borrow.Author.Needs.{needs}
 use Prim.Native.Nat.{_-_}
 use lib.ListN.{length, getD}
-use Rattle.lists.specs.Ranges.{Edge}
+use Rattle.lists.specs.Ranges.{OneTo}
 use Rattle.lists.proofs.Lists.{places-edges}
 use Rattle.diagrams.proofs.Answers.{edge-test, Tested, tested-none, tested-more, tested-all}
 use Rattle.diagrams.proofs.entries_in.Statement.{statement}
 use Rattle.diagrams.proofs.entries_in.Tie as tie
 
 abbrev Inv-loop : tie.InvT-loop
-Inv-loop s n good₀ i₀ good i = Tested (λ k. Edge (length s) (getD s k 0)) (length s) i good
+Inv-loop s n good₀ i₀ good i = Tested (λ k. OneTo (length s) (getD s k 0)) (length s) i good
 
 abbrev μ-loop : tie.MeasureT-loop
 μ-loop s n good₀ i₀ good i = length s - i
@@ -38,7 +38,7 @@ loop-again c = tested-more _ _ (c .before .before .loop .inv) (search needs) (ed
 returns : tie.Need-returns Inv-loop μ-loop
 returns c =
     let a = tested-all _ (c .before .loop .inv) (c .loop-test .left) in
-    let b = places-edges (Edge (length (c .before .before .args .s .now))) (c .before .before .args .s .now) in
+    let b = places-edges (OneTo (length (c .before .before .args .s .now))) (c .before .before .args .s .now) in
     (λ q. b .0 (a .0 q), λ e. a .1 (b .1 e))
 
 pub entries-in-spec : {M : Type 1} → statement M

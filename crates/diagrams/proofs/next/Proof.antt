@@ -5,20 +5,20 @@ use Rattle.lists.proofs.Lists.{at-place}
 use Rattle.diagrams.proofs.next.Statement.{statement}
 use Rattle.diagrams.proofs.next.Tie as tie
 
-sub-wide : tie.Need-sub-wide
-sub-wide c = search needs
+sub-to-index : tie.Need-sub-to-index
+sub-to-index c = search needs
 
-mul-wide : tie.Need-mul-wide
-mul-wide c = search needs
+mul-to-index : tie.Need-mul-to-index
+mul-to-index c = search needs
 
-shared-slice-read-wide : tie.Need-shared-slice-read-wide
-shared-slice-read-wide c = search needs
+shared-slice-read-to-index : tie.Need-shared-slice-read-to-index
+shared-slice-read-to-index c = search needs
 
-wide-requires : tie.Need-wide-requires
-wide-requires c κs = search needs
+to-index-requires : tie.Need-to-index-requires
+to-index-requires c κs = search needs
 
 returns : tie.Need-returns
-returns c = c .wide .ensures ∙ at-place _ (c .before .before .before .args .x) (search needs)
+returns c = c .to-index .ensures ∙ at-place _ (c .before .before .before .args .x) (search needs)
 
 pub next-spec : {M : Type 1} → statement M
-next-spec = tie.close (tie.spec sub-wide mul-wide shared-slice-read-wide wide-requires returns)
+next-spec = tie.close (tie.spec sub-to-index mul-to-index shared-slice-read-to-index to-index-requires returns)

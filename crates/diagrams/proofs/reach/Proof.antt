@@ -5,8 +5,8 @@ use Rattle.diagrams.proofs.Searching.{mark-small, search-reach}
 use Rattle.diagrams.proofs.reach.Statement.{statement}
 use Rattle.diagrams.proofs.reach.Tie as tie
 
-wide-requires : tie.Need-wide-requires
-wide-requires c κs = search needs
+to-index-requires : tie.Need-to-index-requires
+to-index-requires c κs = search needs
 
 sub-i : tie.Need-sub-i
 sub-i c = search needs
@@ -24,7 +24,7 @@ slice-write-list : tie.Need-slice-write-list
 slice-write-list c = search needs
 
 sub-result : tie.Need-sub-result
-sub-result c = rw (c .before .wide .ensures) (mark-small (c .before .before .before .before .pre .0) _ (c .before .before .before .before .pre .1))
+sub-result c = rw (c .before .to-index .ensures) (mark-small (c .before .before .before .before .pre .0) _ (c .before .before .before .before .pre .1))
 
 cast-result : tie.Need-cast-result
 cast-result c = search needs
@@ -39,13 +39,13 @@ same-length-2 : tie.Need-same-length-2
 same-length-2 c = search needs
 
 returns : tie.Need-returns
-returns c = rw (c .before .wide .ensures) (search-reach (c .before .before .before .before .pre .0) _ (c .before .before .before .before .pre .1) _ refl)
+returns c = rw (c .before .to-index .ensures) (search-reach (c .before .before .before .before .pre .0) _ (c .before .before .before .before .pre .1) _ refl)
 
 pub reach-spec : {M : Type 1} → statement M
 reach-spec =
     tie.close
     (tie.spec
-    wide-requires
+    to-index-requires
     sub-i
     slice-read-mark
     slice-write-marks

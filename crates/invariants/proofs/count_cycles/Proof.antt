@@ -4,19 +4,19 @@ use Prim.Native.Nat.{_-_}
 use borrow.Author.Needs.{needs}
 use lib.ListN.{length}
 use Rattle.lists.specs.Lists.{at}
-use Rattle.cycles.specs.Cycles.{Perm, around}
-use Rattle.cycles.proofs.Cycles.{around-perm}
+use Rattle.invariants_cycles.specs.Cycles.{Permutation, cuspMap}
+use Rattle.invariants_cycles.proofs.Cycles.{around-perm}
 use Rattle.invariants.proofs.Counts.{Counted, count-start, count-few, count-end, count-skip, count-new}
 use Rattle.invariants.proofs.count_cycles.Statement.{statement}
 use Rattle.invariants.proofs.count_cycles.Tie as tie
 
 abbrev Inv-loop : tie.InvT-loop
-Inv-loop s0 s1 seen₀ count₀ longest₀ i₀ seen count longest i = Counted (length s0) (around (at s0) (at s1)) seen count longest i
+Inv-loop s0 s1 seen₀ count₀ longest₀ i₀ seen count longest i = Counted (length s0) (cuspMap (at s0) (at s1)) seen count longest i
 
 abbrev μ-loop : tie.MeasureT-loop
 μ-loop s0 s1 seen₀ count₀ longest₀ i₀ seen count longest i = length s0 - i
 
-perm : (c : tie.Start Inv-loop μ-loop) → Perm (length (c .args .s0 .now)) (around (at (c .args .s0 .now)) (at (c .args .s1 .now)))
+perm : (c : tie.Start Inv-loop μ-loop) → Permutation (length (c .args .s0 .now)) (cuspMap (at (c .args .s0 .now)) (at (c .args .s1 .now)))
 perm c = around-perm (c .pre .maps)
 
 loop-holds : tie.Need-loop-holds Inv-loop μ-loop

@@ -5,14 +5,14 @@ use Prim.Native.Nat.{_-_, _≤_}
 use borrow.Author.Needs.{needs}
 use lib.ListN.{length}
 use Rattle.lists.specs.Lists.{at}
-use Rattle.cycles.specs.Cycles.{fixes}
-use Rattle.cycles.proofs.Cycles.{fixes-most}
+use Rattle.invariants_cycles.specs.Cycles.{fixedPoints}
+use Rattle.invariants_cycles.proofs.Cycles.{fixes-most}
 use Rattle.invariants.proofs.FixedEdges.{fixes-none, fixes-one-more, fixes-no-more}
 use Rattle.invariants.proofs.fixed.Statement.{statement}
 use Rattle.invariants.proofs.fixed.Tie as tie
 
 abbrev Inv-loop : tie.InvT-loop
-Inv-loop s count₀ i₀ count i = (i ≤ length s) × (count ≡ fixes i (at s))
+Inv-loop s count₀ i₀ count i = (i ≤ length s) × (count ≡ fixedPoints i (at s))
 
 abbrev μ-loop : tie.MeasureT-loop
 μ-loop s count₀ i₀ count i = length s - i
@@ -20,14 +20,14 @@ abbrev μ-loop : tie.MeasureT-loop
 loop-holds : tie.Need-loop-holds Inv-loop μ-loop
 loop-holds c = (search needs, fixes-none _)
 
-mul-wide : tie.Need-mul-wide Inv-loop μ-loop
-mul-wide c = search needs
+mul-to-index : tie.Need-mul-to-index Inv-loop μ-loop
+mul-to-index c = search needs
 
-shared-slice-read-wide : tie.Need-shared-slice-read-wide Inv-loop μ-loop
-shared-slice-read-wide c = search needs
+shared-slice-read-to-index : tie.Need-shared-slice-read-to-index Inv-loop μ-loop
+shared-slice-read-to-index c = search needs
 
-wide-requires : tie.Need-wide-requires Inv-loop μ-loop
-wide-requires c κs = search needs
+to-index-requires : tie.Need-to-index-requires Inv-loop μ-loop
+to-index-requires c κs = search needs
 
 add-i : tie.Need-add-i Inv-loop μ-loop
 add-i c = search needs
@@ -41,13 +41,13 @@ loop-less : tie.Need-loop-less Inv-loop μ-loop
 loop-less c = search needs
 
 loop-again : tie.Need-loop-again Inv-loop μ-loop
-loop-again c = (omega arith, fixes-one-more _ _ _ (c .before .before .before .before .loop .inv .1) (sym (c .before .wide .ensures) ∙ c .if1 .taken))
+loop-again c = (omega arith, fixes-one-more _ _ _ (c .before .before .before .before .loop .inv .1) (sym (c .before .to-index .ensures) ∙ c .if1 .taken))
 
 loop-less-2 : tie.Need-loop-less-2 Inv-loop μ-loop
 loop-less-2 c = search needs
 
 loop-again-2 : tie.Need-loop-again-2 Inv-loop μ-loop
-loop-again-2 c = (omega arith, fixes-no-more _ _ _ (c .before .before .before .before .loop .inv .1) (λ q. c .if1 .left (c .before .wide .ensures ∙ q)))
+loop-again-2 c = (omega arith, fixes-no-more _ _ _ (c .before .before .before .before .loop .inv .1) (λ q. c .if1 .left (c .before .to-index .ensures ∙ q)))
 
 returns : tie.Need-returns Inv-loop μ-loop
 returns c = let e : c .before .loop .i ≡ length (c .before .before .before .args .s .now) = omega arith in rw e at (c .before .loop .inv .1)
@@ -59,9 +59,9 @@ fixed-spec =
     Inv-loop
     μ-loop
     loop-holds
-    mul-wide
-    shared-slice-read-wide
-    wide-requires
+    mul-to-index
+    shared-slice-read-to-index
+    to-index-requires
     add-i
     add-count
     loop-less

@@ -8,8 +8,8 @@ use lib.ListN.{length}
 use mir.Syntax.{w32}
 use mir.ValLaws.{toZ-ofZ}
 use Rattle.lists.specs.Lists.{at}
-use Rattle.cycles.specs.Cycles.{cycles, fixes, around}
-use Rattle.cycles.proofs.Cycles.{fixes-most, cycles-most}
+use Rattle.invariants_cycles.specs.Cycles.{cycles, fixedPoints, cuspMap}
+use Rattle.invariants_cycles.proofs.Cycles.{fixes-most, cycles-most}
 use Rattle.invariants.proofs.Differences.{t-of}
 use Rattle.invariants.proofs.measure.Statement.{statement}
 use Rattle.invariants.proofs.measure.Tie as tie
@@ -23,38 +23,38 @@ fixed-requires-2 c κs = search needs
 count-cycles-requires : tie.Need-count-cycles-requires
 count-cycles-requires c κs = search needs
 
-wide-requires : tie.Need-wide-requires
-wide-requires c κs = search needs
+to-index-requires : tie.Need-to-index-requires
+to-index-requires c κs = search needs
 
-wide-requires-2 : tie.Need-wide-requires-2
-wide-requires-2 c κs = search needs
+to-index-requires-2 : tie.Need-to-index-requires-2
+to-index-requires-2 c κs = search needs
 
-wide-requires-3 : tie.Need-wide-requires-3
-wide-requires-3 c κs = search needs
+to-index-requires-3 : tie.Need-to-index-requires-3
+to-index-requires-3 c κs = search needs
 
 -- the calls' results are the definitions
-module _ (c : tie.After-wide3) where
+module _ (c : tie.After-to-index3) where
   abbrev s0 : List ℕ
   s0 = c .before .before .before .before .before .before .before .before .args .s0 .now
 
   abbrev s1 : List ℕ
   s1 = c .before .before .before .before .before .before .before .before .args .s1 .now
 
-  e2-is : _≡_ {A = ℕ} (c .before .before .before .before .before .fixed .result) (fixes (length s0) (at s1))
-  e2-is = c .before .before .before .before .before .fixed .ensures ∙ ap (λ n. fixes n (at s1)) (c .before .before .before .before .before .before .before .before .pre .lengths)
+  e2-is : _≡_ {A = ℕ} (c .before .before .before .before .before .fixed .result) (fixedPoints (length s0) (at s1))
+  e2-is = c .before .before .before .before .before .fixed .ensures ∙ ap (λ n. fixedPoints n (at s1)) (c .before .before .before .before .before .before .before .before .pre .lengths)
 
-  e3-is : _≡_ {A = ℕ} (c .before .before .before .before .fixed2 .result) (fixes (length s0) (at s0))
+  e3-is : _≡_ {A = ℕ} (c .before .before .before .before .fixed2 .result) (fixedPoints (length s0) (at s0))
   e3-is = c .before .before .before .before .fixed2 .ensures
 
-  c-is : _≡_ {A = ℕ} (c .before .before .before .count-cycles .result .count) (cycles (length s0) (around (at s0) (at s1)))
+  c-is : _≡_ {A = ℕ} (c .before .before .before .count-cycles .result .count) (cycles (length s0) (cuspMap (at s0) (at s1)))
   c-is = c .before .before .before .count-cycles .ensures .0
 
 t-requires : tie.Need-t-requires
 t-requires c κs =
     let a = fixes-most (length (s0 c)) (at (s1 c)) in
     let b = fixes-most (length (s0 c)) (at (s0 c)) in
-    let d = cycles-most (length (s0 c)) (around (at (s0 c)) (at (s1 c))) in
-    omega (arith, e2-is c, e3-is c, c-is c, c .before .before .wide .ensures, c .before .wide2 .ensures, c .wide3 .ensures, c .before .before .before .before .before .before .before .before .pre .size)
+    let d = cycles-most (length (s0 c)) (cuspMap (at (s0 c)) (at (s1 c))) in
+    omega (arith, e2-is c, e3-is c, c-is c, c .before .before .to-index .ensures, c .before .to-index2 .ensures, c .to-index3 .ensures, c .before .before .before .before .before .before .before .before .pre .size)
 
 returns : tie.Need-returns
 returns c = record {
@@ -65,9 +65,9 @@ returns c = record {
       toZ-ofZ w32 (c .t .result) record { sfits = c .t .ok }
       ∙ c .t .ensures
       ∙ t-of (length (s0 (c .before))) (at (s0 (c .before))) (at (s1 (c .before))) _ _ _
-      (c .before .before .before .wide .ensures ∙ e2-is (c .before))
-      (c .before .before .wide2 .ensures ∙ e3-is (c .before))
-      (c .before .wide3 .ensures ∙ c-is (c .before));
+      (c .before .before .before .to-index .ensures ∙ e2-is (c .before))
+      (c .before .before .to-index2 .ensures ∙ e3-is (c .before))
+      (c .before .to-index3 .ensures ∙ c-is (c .before));
   level-is = c .before .before .before .before .count-cycles .ensures .1;
 }
 
@@ -78,8 +78,8 @@ measure-spec =
     fixed-requires
     fixed-requires-2
     count-cycles-requires
-    wide-requires
-    wide-requires-2
-    wide-requires-3
+    to-index-requires
+    to-index-requires-2
+    to-index-requires-3
     t-requires
     returns)

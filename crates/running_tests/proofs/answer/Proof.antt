@@ -8,8 +8,8 @@ use Rattle.running_tests.proofs.answer.Tie as tie
 enum-known-given : tie.Need-enum-known-given
 enum-known-given c = search needs
 
-wide-requires : tie.Need-wide-requires
-wide-requires c κs = search needs
+to-index-requires : tie.Need-to-index-requires
+to-index-requires c κs = search needs
 
 slice-aggregate-letters : tie.Need-slice-aggregate-letters
 slice-aggregate-letters c = sym (length-take-le _ _ (search needs))
@@ -34,7 +34,7 @@ answer-spec =
     tie.close
     (tie.spec
     enum-known-given
-    wide-requires
+    to-index-requires
     slice-aggregate-letters
     letters-requires
     outcome-requires

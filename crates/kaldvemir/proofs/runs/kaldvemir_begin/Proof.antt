@@ -1,13 +1,13 @@
 use native.Mathlib.Omega.{arith}
-use Rattle.running.specs.declared.Beginning.the-variants.{Begun, Refused}
-use Rattle.layout.specs.Layout.{run-numbers}
+use Rattle.run_steps.specs.declared.Beginning.the-variants.{Begun, Refused}
+use Rattle.kaldvemir_layout.specs.Layout.{run-numbers}
 use mathlib.Core.Path.{_≡_, refl, sym, _∙_, ap}
 use borrow.Author.Needs.{needs}
 use Rattle.kaldvemir.proofs.runs.kaldvemir_begin.Statement.{statement}
 use Rattle.kaldvemir.proofs.runs.kaldvemir_begin.Tie as tie
 use Rattle.kaldvemir.proofs.runs.kaldvemir_begin.Reads as reads
 use Rattle.kaldvemir.proofs.runs.kaldvemir_begin.Lts as lts
-use Rattle.running.proofs.begin.Reads as begin-reads
+use Rattle.run_steps.proofs.begin.Reads as begin-reads
 
 -- src/runs.rt:74:9
 begin-requires : tie.Need-begin-requires

@@ -1,17 +1,17 @@
 use mathlib.Core.Path.{_≡_, refl, sym, _∙_, ap}
 use native.Mathlib.Omega.{arith}
-use Rattle.listing.specs.declared.Listing.the-variants.{Rows, Refused}
-use Rattle.layout.specs.Layout.{run-numbers}
-use Rattle.layout.proofs.Rows.{run-again}
+use Rattle.run_blocks.specs.declared.Listing.the-variants.{Rows, Refused}
+use Rattle.kaldvemir_layout.specs.Layout.{run-numbers}
+use Rattle.kaldvemir_layout.proofs.Rows.{run-again}
 use Rattle.kaldvemir.proofs.Blocks.{rows-fit, fitting-numbers}
 use borrow.Author.Needs.{needs}
 use Rattle.kaldvemir.proofs.runs.kaldvemir_list.Statement.{statement}
 use Rattle.kaldvemir.proofs.runs.kaldvemir_list.Tie as tie
 use Rattle.kaldvemir.proofs.runs.kaldvemir_list.Reads as reads
 use Rattle.kaldvemir.proofs.runs.kaldvemir_list.Lts as lts
-use Rattle.layout.proofs.runs.held.Reads as held-reads
-use Rattle.layout.proofs.runs.put_back.Reads as put-back-reads
-use Rattle.listing.proofs.list.Reads as list-reads
+use Rattle.kaldvemir_layout.proofs.runs.held.Reads as held-reads
+use Rattle.kaldvemir_layout.proofs.runs.put_back.Reads as put-back-reads
+use Rattle.run_blocks.proofs.list.Reads as list-reads
 
 -- src/runs.rt:89:32
 held-requires : tie.Need-held-requires

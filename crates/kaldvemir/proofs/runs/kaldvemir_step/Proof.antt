@@ -1,18 +1,18 @@
-use Rattle.counting.specs.Listing.{count}
+use Rattle.listing.specs.Listing.{count}
 use Rattle.kaldvemir.proofs.Stepped.{end-numbers, step-numbers}
-use Rattle.layout.proofs.Rows.{run-again}
-use Rattle.running.specs.declared.Stepping.the-variants.{Length, End, Refused}
-use Rattle.layout.specs.Layout.{run-numbers}
+use Rattle.kaldvemir_layout.proofs.Rows.{run-again}
+use Rattle.run_steps.specs.declared.Stepping.the-variants.{Length, End, Refused}
+use Rattle.kaldvemir_layout.specs.Layout.{run-numbers}
 use mathlib.Core.Path.{_≡_, refl, sym, _∙_, ap}
 use borrow.Author.Needs.{needs}
 use Rattle.kaldvemir.proofs.runs.kaldvemir_step.Statement.{statement}
 use Rattle.kaldvemir.proofs.runs.kaldvemir_step.Tie as tie
 use Rattle.kaldvemir.proofs.runs.kaldvemir_step.Reads as reads
 use Rattle.kaldvemir.proofs.runs.kaldvemir_step.Lts as lts
-use Rattle.layout.proofs.long.Reads as long-reads
-use Rattle.layout.proofs.runs.held.Reads as held-reads
-use Rattle.layout.proofs.runs.put_back.Reads as put-back-reads
-use Rattle.running.proofs.step.Reads as step-reads
+use Rattle.kaldvemir_layout.proofs.long.Reads as long-reads
+use Rattle.kaldvemir_layout.proofs.runs.held.Reads as held-reads
+use Rattle.kaldvemir_layout.proofs.runs.put_back.Reads as put-back-reads
+use Rattle.run_steps.proofs.step.Reads as step-reads
 
 -- src/runs.rt:101:33
 held-requires : tie.Need-held-requires

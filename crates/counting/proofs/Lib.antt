@@ -1,6 +1,0 @@
-pub mod Tails
-pub mod Listing
-pub mod Ranking
-pub mod Examples
-pub mod Positions
-pub mod InPlace

@@ -1,4 +1,0 @@
-pub mod Listing
-pub mod Position
-pub mod Ranking
-pub mod Diagrams

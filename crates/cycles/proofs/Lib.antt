@@ -1,6 +1,0 @@
-pub mod Tallies
-pub mod Searches
-pub mod Cycles
-pub mod Carried
-pub mod InvariantsAlike
-pub mod Examples

@@ -1,0 +1,95 @@
+// A whole labelling written out: the word, and the lists seen through the labels.
+use crate::events::begin;
+use crate::events::event;
+use crate::events::follow;
+use lists::to_index;
+ghost use mathlib.Core.Path.{_≡_};
+ghost use mathlib.Core.List.{List, _++_, []};
+ghost use Prim.Native.Nat.{ℕ, suc, _<_, _≤_};
+ghost use lib.ListN.{length, take, drop};
+ghost use Rattle.lists.specs.Lists.{at, tabulate};
+ghost use Rattle.lists.specs.Ranges.{OneTo};
+ghost use Rattle.diagrams.specs.Check.{Accepts, Entries};
+ghost use Rattle.labelling.specs.Labelling.{edgeOf, relabel, wordOf};
+ghost use Rattle.labelling_code.specs.Scratch.{LabelsHeld, SomeLabelsHeld, Ready, WordWritten};
+
+// Labels the whole diagram from its root and writes the word. Returns the word's length.
+pub fn write_word(
+    s0: &[u16],
+    s1: &[u16],
+    labels: &mut [u16; 1025],
+    order: &mut [u16; 1025],
+    next: &mut [u16; 1025],
+    prev: &mut [u16; 1025],
+    root: u16,
+    word: &mut [u16],
+) -> usize
+    requires { ⌜ Accepts (now s0) (now s1) root ⌝ }
+    requires { ⌜ Ready (now labels) (now order) (now next) (now prev) ⌝ }
+    requires { ⌜ length (now s0) < length (now word) ⌝ }
+    ensures { λ m. ⌜ WordWritten (now (s0 .entry)) (now (s1 .entry)) root (now (labels .exit)) (now (order .exit)) (now (next .exit)) (now (prev .exit)) (now (word .entry)) (now (word .exit)) m ⌝ }
+{
+    let first = begin(s0, labels, order, next, prev, root);
+    word[0] = first.item;
+    let mut given = first.given;
+    let mut len: usize = 1;
+    while next[0] != 0 {
+        let turn = event(s0, s1, labels, order, next, prev, given);
+        word[len] = turn.item;
+        given = turn.given;
+        len += 1;
+    }
+    len
+}
+
+// Takes the labels back, the last given first.
+pub(crate) fn take_back(labels: &mut [u16; 1025], order: &[u16; 1025], given: u16)
+    requires { ⌜ SomeLabelsHeld (now labels) (now order) given ⌝ }
+    ensures { λ _. ⌜ LabelsHeld (now (labels .exit)) (now (order .entry)) 0 [] ⌝ }
+{
+    let mut left = given;
+    while left != 0 {
+        let x = order[to_index(left)];
+        labels[to_index(x)] = 0;
+        left -= 1;
+    }
+}
+
+// Writes the diagram's word and leaves the arrays fit for the next labelling. Returns the word's length.
+pub fn own_word(
+    s0: &[u16],
+    s1: &[u16],
+    labels: &mut [u16; 1025],
+    order: &mut [u16; 1025],
+    next: &mut [u16; 1025],
+    prev: &mut [u16; 1025],
+    root: u16,
+    word: &mut [u16],
+) -> usize
+    requires { ⌜ Accepts (now s0) (now s1) root ⌝ }
+    requires { ⌜ Ready (now labels) (now order) (now next) (now prev) ⌝ }
+    requires { ⌜ length (now s0) < length (now word) ⌝ }
+    ensures few { λ m. ⌜ m ≤ suc (length (now (s0 .entry))) ⌝ }
+    ensures word { λ m. ⌜ take m (now (word .exit)) ≡ wordOf (now (s0 .entry)) (now (s1 .entry)) root ⌝ }
+    ensures ready { λ _. ⌜ Ready (now (labels .exit)) (now (order .exit)) (now (next .exit)) (now (prev .exit)) ⌝ }
+{
+    let m = write_word(s0, s1, labels, order, next, prev, root, word);
+    take_back(labels, order, s0.len() as u16);
+    m
+}
+
+// Writes the list s, seen through the labels, into the first places of t.
+pub fn write_list(s: &[u16], labels: &[u16; 1025], order: &[u16; 1025], t: &mut [u16])
+    requires { ⌜ (length (now s) ≤ 1024) × (length (now s) ≤ length (now t)) × Entries (length (now s)) (now s) ⌝ }
+    requires { ⌜ ((o : List ℕ) × LabelsHeld (now labels) (now order) (length (now s)) o × ((j : ℕ) → OneTo (length (now s)) j → OneTo (length (now s)) (edgeOf o j))) ⌝ }
+    ensures { λ _. ⌜ ((o : List ℕ) → LabelsHeld (now (labels .entry)) (now (order .entry)) (length (now (s .entry))) o
+        → now (t .exit) ≡ tabulate (relabel o (at (now (s .entry)))) (length (now (s .entry))) ++ drop (length (now (s .entry))) (now (t .entry))) ⌝ }
+{
+    let n = s.len();
+    let mut j: usize = 0;
+    while j < n {
+        let x = follow(s, order[j + 1]);
+        t[j] = labels[to_index(x)];
+        j += 1;
+    }
+}

@@ -1,0 +1,106 @@
+// The plain walk: all words of a small size, one after another.
+use lists::fill;
+ghost use mathlib.Core.Path.{_≡_};
+ghost use Prim.Native.Nat.{suc, _+_, _≤_, _<_};
+ghost use lib.ListN.{length, take};
+ghost use Rattle.words.specs.Outputs.{overwriteFrom};
+ghost use Rattle.listing_plain_walk.specs.Promises.{PlainWalkPromise};
+ghost use Rattle.listing_plain_walk.specs.Walk.{LeadsTo, WalkRoom, WalkAdded};
+
+pub enum Walked {
+    Numbers(usize),
+    Refused(u16),
+}
+
+// Writes the first len items of word into out from place at on, and gives the place after them.
+fn write(out: &mut [u16], at: usize, word: &[u16], len: usize) -> usize
+    requires { ⌜ (at + len ≤ length (now out)) × (len ≤ length (now word)) ⌝ }
+    ensures { λ r. ⌜ (r ≡ at + len) × (now (out .exit) ≡ overwriteFrom at (take len (now (word .entry))) (now (out .entry))) ⌝ }
+{
+    fill(&mut out[at..], &word[..len]);
+    at + len
+}
+
+// The height of the stack and the number of labels free.
+struct Left {
+    h: u16,
+    f: u16,
+}
+
+// What the event e leaves, with h edges pending besides the one it popped. Where F or B lacks labels, that is an empty stack with
+// a label free: a dead end, so the branching needs no test.
+fn after_event(e: u16, h: u16, f: u16) -> Left
+    requires { ⌜ (e < h + 3) × (h < 1000) ⌝ }
+    ensures { λ r. ⌜ LeadsTo e h f (r .h) (r .f) ⌝ }
+{
+    match e {
+        0 => Left { h, f },
+        1 => {
+            if 3 <= f {
+                Left { h: h + 2, f: f - 3 }
+            } else {
+                Left { h: 0, f: 1 }
+            }
+        }
+        2 => {
+            if 1 <= f {
+                Left { h, f: f - 1 }
+            } else {
+                Left { h: 0, f: 1 }
+            }
+        }
+        _ => Left { h: h - 1, f },
+    }
+}
+
+// Branches on the events W, F, B, J0, J1, .. of an edge that is popped already; h edges are pending besides it.
+fn branch(out: &mut [u16], at: usize, word: &mut [u16], len: usize, h: u16, f: u16) -> usize
+    requires { ⌜ WalkRoom (now out) at (now word) len (suc h) f ⌝ }
+    ensures { λ r. ⌜ WalkAdded (now (out .entry)) at (now (word .entry)) len (suc h) f (now (out .exit)) (now (word .exit)) r ⌝ }
+{
+    let mut end = at;
+    let mut e: u16 = 0;
+    while e < h + 3 {
+        let left = after_event(e, h, f);
+        word[len] = e;
+        end = end_or_pop(out, end, word, len + 1, left.h, left.f);
+        e += 1;
+    }
+    end
+}
+
+// Ends the word if no edge is pending, and writes it if no label is free either; otherwise pops an edge.
+fn end_or_pop(out: &mut [u16], at: usize, word: &mut [u16], len: usize, h: u16, f: u16) -> usize
+    requires { ⌜ WalkRoom (now out) at (now word) len h f ⌝ }
+    ensures { λ r. ⌜ WalkAdded (now (out .entry)) at (now (word .entry)) len h f (now (out .exit)) (now (word .exit)) r ⌝ }
+{
+    if h == 0 {
+        if f == 0 {
+            write(out, at, word, len)
+        } else {
+            at
+        }
+    } else {
+        branch(out, at, word, len, h - 1, f)
+    }
+}
+
+// Writes all words of size n, one after another: those that begin with U, then those that begin with T.
+pub fn plain_walk(n: u64, out: &mut [u16]) -> Walked
+    ensures { λ r. ⌜ PlainWalkPromise n (now (out .entry)) (now (out .exit)) r ⌝ }
+{
+    if n < 1 || 9 < n {
+        return Walked::Refused(35);
+    }
+    if out.len() < 1024 {
+        return Walked::Refused(9);
+    }
+    let size = n as u16;
+    let mut word = [0u16; 16];
+    let end = end_or_pop(out, 0, &mut word, 1, 1, size - 1);
+    if size < 3 {
+        return Walked::Numbers(end);
+    }
+    word[0] = 1;
+    Walked::Numbers(end_or_pop(out, end, &mut word, 1, 3, size - 3))
+}

@@ -1,0 +1,122 @@
+// Count, diagram at a position, position of a diagram. All three go by the table of the ways to go on: the words of a size, in
+// dictionary order, fall into blocks by their first event, and the table says how long each block is.
+mod blocks;
+mod ranking;
+mod unranking;
+
+use labelling_operations::Relabelling;
+use diagrams::Diagram;
+use lists::to_index;
+ghost use mathlib.Core.Path.{_≡_};
+ghost use lib.ListN.{length};
+ghost use Rattle.lists.specs.Ranges.{OneTo};
+ghost use Rattle.words.specs.Outputs.{Short, Written};
+ghost use Rattle.listing.specs.Listing.{count};
+ghost use Rattle.listing.specs.Position.{wordAt};
+ghost use Rattle.listing.specs.Diagrams.{diagramAt};
+ghost use Rattle.listing_ranking.specs.Promises.{CountPromise, DiagramAtPromise, PositionPromise};
+
+pub enum Total {
+    Number(u64),
+    Refused(u16),
+}
+
+pub enum Entry {
+    Length(u16),
+    Refused(u16),
+}
+
+pub enum Place {
+    Number(u64),
+    Refused(u16),
+}
+
+// The count of a listed size.
+fn count_of(size: u64) -> u64
+    requires { ⌜ OneTo 50 size ⌝ }
+    ensures { λ r. ⌜ r ≡ count size ⌝ }
+{
+    let n = size as usize;
+    let single = listing_table::ways(1, n - 1);
+    if n < 3 {
+        return single;
+    }
+    single + listing_table::ways(3, n - 3)
+}
+
+// How many words spell a diagram of n edges. Refuses 31, a size outside 1..50.
+pub fn count(n: u64) -> Total
+    ensures { λ r. ⌜ CountPromise n r ⌝ }
+{
+    if n < 1 {
+        return Total::Refused(31);
+    }
+    if (Diagram::MAX_LISTED as u64) < n {
+        return Total::Refused(31);
+    }
+    Total::Number(count_of(n))
+}
+
+// Writes the diagram at a position that there is, with its word, into lists that are long enough.
+fn write_at(n: u64, p: u64, s0: &mut [u16], s1: &mut [u16], word: &mut [u16]) -> u16
+    requires { ⌜ OneTo 50 n × OneTo (count n) p × (¬ Short n (now s0) (now s1) (now word)) ⌝ }
+    ensures { λ r. ⌜ (r ≡ length (wordAt n p))
+        × Written (diagramAt n p) (wordAt n p) (now (s0 .entry)) (now (s1 .entry)) (now (word .entry)) (now (s0 .exit)) (now (s1 .exit)) (now (word .exit)) ⌝ }
+{
+    let m = unranking::word_at(n, p, word);
+    words_spelling::write_diagram(&word[..m], s0, s1);
+    m as u16
+}
+
+// Writes the diagram at position p of size n, which has root 1 and is in its characteristic labelling, and its word, whose length
+// it returns. Refuses 31; 32, a position that is 0 or above the count; 9, an output list that is short (n, n, and n + 1).
+pub fn diagram_at(n: u64, p: u64, s0: &mut [u16], s1: &mut [u16], word: &mut [u16]) -> Entry
+    ensures { λ r. ⌜ DiagramAtPromise n p (now (s0 .entry)) (now (s1 .entry)) (now (word .entry)) (now (s0 .exit)) (now (s1 .exit)) (now (word .exit)) r ⌝ }
+{
+    if n < 1 {
+        return Entry::Refused(31);
+    }
+    if (Diagram::MAX_LISTED as u64) < n {
+        return Entry::Refused(31);
+    }
+    if p < 1 {
+        return Entry::Refused(32);
+    }
+    if count_of(n) < p {
+        return Entry::Refused(32);
+    }
+    let size = n as usize;
+    if s0.len() < size {
+        return Entry::Refused(9);
+    }
+    if s1.len() < size {
+        return Entry::Refused(9);
+    }
+    if word.len() <= size {
+        return Entry::Refused(9);
+    }
+    Entry::Length(write_at(n, p, s0, s1, word))
+}
+
+// The position of a diagram: that of its word among the words of its size. Refuses 1 to 8 as check does, then 31. The lists lent to
+// relabel hold 50 edges, so that its refusal of short lists, which comes after 1 to 8, is that of a size above 50.
+pub fn position(s0: &[u16], s1: &[u16], root: u64) -> Place
+    ensures { λ r. ⌜ PositionPromise (now (s0 .entry)) (now (s1 .entry)) root r ⌝ }
+{
+    let mut t0 = [0u16; Diagram::MAX_LISTED];
+    let mut t1 = [0u16; Diagram::MAX_LISTED];
+    let mut word = [0u16; Diagram::MAX_LISTED + 1];
+    let relabelled = labelling_operations::relabel(s0, s1, root, &mut t0, &mut t1, &mut word);
+    match relabelled {
+        Relabelling::Refused(k) => {
+            if k == 9 {
+                return Place::Refused(31);
+            }
+            Place::Refused(k)
+        }
+        Relabelling::Length(length) => {
+            let m = to_index(length);
+            Place::Number(ranking::position_of(s0.len(), &word[..m]))
+        }
+    }
+}

@@ -1,0 +1,3 @@
+pub mod Successor
+pub mod Reading
+pub mod Promises

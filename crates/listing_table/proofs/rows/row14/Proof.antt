@@ -1,0 +1,16 @@
+-- Each number of row 14 is the list's; past the row both are 0.
+use mathlib.Core.Path.{sym}
+use borrow.Author.Needs.{needs}
+use Rattle.listing_table.specs.Rows.{row14}
+use Rattle.listing_table.proofs.Past.{past}
+use Rattle.listing_table.proofs.rows.row14.Statement.{statement}
+use Rattle.listing_table.proofs.rows.row14.Tie as tie
+
+pub row14-spec : {M : Type 1} → statement M
+row14-spec =
+    tie.close
+    (tie.spec
+    (λ c. search needs) (λ c. search needs) (λ c. search needs) (λ c. search needs) (λ c. search needs) (λ c. search needs)
+    (λ c. search needs) (λ c. search needs) (λ c. search needs) (λ c. search needs) (λ c. search needs) (λ c. search needs)
+    (λ c. search needs) (λ c. search needs) (λ c. search needs)
+    (λ c. sym (past 0 row14 (c .before .args .f) (c .match .rest))))

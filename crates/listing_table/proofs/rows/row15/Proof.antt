@@ -1,0 +1,15 @@
+-- Each number of row 15 is the list's; past the row both are 0.
+use mathlib.Core.Path.{sym}
+use borrow.Author.Needs.{needs}
+use Rattle.listing_table.specs.Rows.{row15}
+use Rattle.listing_table.proofs.Past.{past}
+use Rattle.listing_table.proofs.rows.row15.Statement.{statement}
+use Rattle.listing_table.proofs.rows.row15.Tie as tie
+
+pub row15-spec : {M : Type 1} → statement M
+row15-spec =
+    tie.close
+    (tie.spec
+    (λ c. search needs) (λ c. search needs) (λ c. search needs) (λ c. search needs) (λ c. search needs) (λ c. search needs)
+    (λ c. search needs) (λ c. search needs) (λ c. search needs) (λ c. search needs) (λ c. search needs) (λ c. search needs)
+    (λ c. sym (past 0 row15 (c .before .args .f) (c .match .rest))))

@@ -1,0 +1,14 @@
+-- Each number of row 17 is the list's; past the row both are 0.
+use mathlib.Core.Path.{sym}
+use borrow.Author.Needs.{needs}
+use Rattle.listing_table.specs.Rows.{row17}
+use Rattle.listing_table.proofs.Past.{past}
+use Rattle.listing_table.proofs.rows.row17.Statement.{statement}
+use Rattle.listing_table.proofs.rows.row17.Tie as tie
+
+pub row17-spec : {M : Type 1} → statement M
+row17-spec =
+    tie.close
+    (tie.spec
+    (λ c. search needs) (λ c. search needs) (λ c. search needs) (λ c. search needs) (λ c. search needs) (λ c. search needs)
+    (λ c. sym (past 0 row17 (c .before .args .f) (c .match .rest))))

@@ -1,0 +1,14 @@
+-- Each number of row 18 is the list's; past the row both are 0.
+use mathlib.Core.Path.{sym}
+use borrow.Author.Needs.{needs}
+use Rattle.listing_table.specs.Rows.{row18}
+use Rattle.listing_table.proofs.Past.{past}
+use Rattle.listing_table.proofs.rows.row18.Statement.{statement}
+use Rattle.listing_table.proofs.rows.row18.Tie as tie
+
+pub row18-spec : {M : Type 1} → statement M
+row18-spec =
+    tie.close
+    (tie.spec
+    (λ c. search needs) (λ c. search needs) (λ c. search needs)
+    (λ c. sym (past 0 row18 (c .before .args .f) (c .match .rest))))

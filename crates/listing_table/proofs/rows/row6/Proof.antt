@@ -1,0 +1,20 @@
+-- Each number of row 6 is the list's; past the row both are 0.
+use mathlib.Core.Path.{sym}
+use borrow.Author.Needs.{needs}
+use Rattle.listing_table.specs.Rows.{row6}
+use Rattle.listing_table.proofs.Past.{past}
+use Rattle.listing_table.proofs.rows.row6.Statement.{statement}
+use Rattle.listing_table.proofs.rows.row6.Tie as tie
+
+pub row6-spec : {M : Type 1} → statement M
+row6-spec =
+    tie.close
+    (tie.spec
+    (λ c. search needs) (λ c. search needs) (λ c. search needs) (λ c. search needs) (λ c. search needs) (λ c. search needs)
+    (λ c. search needs) (λ c. search needs) (λ c. search needs) (λ c. search needs) (λ c. search needs) (λ c. search needs)
+    (λ c. search needs) (λ c. search needs) (λ c. search needs) (λ c. search needs) (λ c. search needs) (λ c. search needs)
+    (λ c. search needs) (λ c. search needs) (λ c. search needs) (λ c. search needs) (λ c. search needs) (λ c. search needs)
+    (λ c. search needs) (λ c. search needs) (λ c. search needs) (λ c. search needs) (λ c. search needs) (λ c. search needs)
+    (λ c. search needs) (λ c. search needs) (λ c. search needs) (λ c. search needs) (λ c. search needs) (λ c. search needs)
+    (λ c. search needs) (λ c. search needs) (λ c. search needs)
+    (λ c. sym (past 0 row6 (c .before .args .f) (c .match .rest))))

@@ -1,0 +1,19 @@
+-- Each number of row 7 is the list's; past the row both are 0.
+use mathlib.Core.Path.{sym}
+use borrow.Author.Needs.{needs}
+use Rattle.listing_table.specs.Rows.{row7}
+use Rattle.listing_table.proofs.Past.{past}
+use Rattle.listing_table.proofs.rows.row7.Statement.{statement}
+use Rattle.listing_table.proofs.rows.row7.Tie as tie
+
+pub row7-spec : {M : Type 1} → statement M
+row7-spec =
+    tie.close
+    (tie.spec
+    (λ c. search needs) (λ c. search needs) (λ c. search needs) (λ c. search needs) (λ c. search needs) (λ c. search needs)
+    (λ c. search needs) (λ c. search needs) (λ c. search needs) (λ c. search needs) (λ c. search needs) (λ c. search needs)
+    (λ c. search needs) (λ c. search needs) (λ c. search needs) (λ c. search needs) (λ c. search needs) (λ c. search needs)
+    (λ c. search needs) (λ c. search needs) (λ c. search needs) (λ c. search needs) (λ c. search needs) (λ c. search needs)
+    (λ c. search needs) (λ c. search needs) (λ c. search needs) (λ c. search needs) (λ c. search needs) (λ c. search needs)
+    (λ c. search needs) (λ c. search needs) (λ c. search needs) (λ c. search needs) (λ c. search needs) (λ c. search needs)
+    (λ c. sym (past 0 row7 (c .before .args .f) (c .match .rest))))

@@ -1,0 +1,91 @@
+// The pending ring: a stack of labels in two lent arrays of 1,025 links, so that an edge can be taken out wherever it stands.
+// Each contract is said of every stack that the arrays hold; arrays that are all zero hold the empty stack.
+use lists::to_index;
+ghost use mathlib.Core.Path.{_≡_};
+ghost use mathlib.Core.List.{List, [], _∷_};
+ghost use Prim.Native.Nat.{ℕ, _<_};
+ghost use lib.ListN.{length, getD, drop};
+ghost use Rattle.lists.specs.Lists.{Has, find, removeAt};
+ghost use Rattle.pending_ring.specs.Ring.{Ring};
+
+// Takes out every label. Links of labels that were pending stay behind and do no harm.
+pub fn clear(next: &mut [u16; 1025], prev: &mut [u16; 1025])
+    requires { ⌜ ((s : List ℕ) × Ring (now next) (now prev) s) ⌝ }
+    ensures { λ _. ⌜ Ring (now (next .exit)) (now (prev .exit)) [] ⌝ }
+{
+    next[0] = 0;
+    prev[0] = 0;
+}
+
+// Puts the label l on top.
+pub fn push(next: &mut [u16; 1025], prev: &mut [u16; 1025], l: u16)
+    requires { ⌜ (0 < l) × (l < 1025) ⌝ }
+    requires { ⌜ ((s : List ℕ) × Ring (now next) (now prev) s) ⌝ }
+    ensures { λ _. ⌜ ((s : List ℕ) → Ring (now (next .entry)) (now (prev .entry)) s → ¬ Has l s → Ring (now (next .exit)) (now (prev .exit)) (l ∷ s)) ⌝ }
+{
+    let at = to_index(l);
+    let top = next[0];
+    let t = to_index(top);
+    next[at] = top;
+    next[0] = l;
+    prev[at] = 0;
+    prev[t] = l;
+}
+
+// Takes the top label off and returns it; 0, and no change, where none is pending.
+pub fn pop(next: &mut [u16; 1025], prev: &mut [u16; 1025]) -> u16
+    requires { ⌜ ((s : List ℕ) × Ring (now next) (now prev) s) ⌝ }
+    ensures { λ r. ⌜ ((s : List ℕ) → Ring (now (next .entry)) (now (prev .entry)) s → (r ≡ getD s 0 0) × Ring (now (next .exit)) (now (prev .exit)) (drop 1 s)) ⌝ }
+{
+    let top = next[0];
+    let t = to_index(top);
+    let below = next[t];
+    let b = to_index(below);
+    next[0] = below;
+    prev[b] = 0;
+    top
+}
+
+// Takes the label l out, wherever it stands.
+pub fn unhook(next: &mut [u16; 1025], prev: &mut [u16; 1025], l: u16)
+    requires { ⌜ ((s : List ℕ) × Ring (now next) (now prev) s × Has l s) ⌝ }
+    ensures { λ _. ⌜ ((s : List ℕ) → Ring (now (next .entry)) (now (prev .entry)) s → Has l s → Ring (now (next .exit)) (now (prev .exit)) (removeAt (find l s) s)) ⌝ }
+{
+    let at = to_index(l);
+    let above = prev[at];
+    let below = next[at];
+    let a = to_index(above);
+    let b = to_index(below);
+    next[a] = below;
+    prev[b] = above;
+}
+
+// How many places below the top the pending label l stands.
+pub fn depth(next: &[u16; 1025], l: u16) -> usize
+    requires { ⌜ ((pv : List ℕ) × (s : List ℕ) × Ring (now next) pv s × Has l s) ⌝ }
+    ensures { λ r. ⌜ ((pv s : List ℕ) → Ring (now (next .entry)) pv s → Has l s → r ≡ find l s) ⌝ }
+{
+    let mut cur = next[0];
+    let mut d: usize = 0;
+    while cur != l {
+        let at = to_index(cur);
+        cur = next[at];
+        d += 1;
+    }
+    d
+}
+
+// The label that stands d places below the top.
+pub fn label_at(next: &[u16; 1025], d: usize) -> u16
+    requires { ⌜ ((pv : List ℕ) × (s : List ℕ) × Ring (now next) pv s × (d < length s)) ⌝ }
+    ensures { λ r. ⌜ ((pv s : List ℕ) → Ring (now (next .entry)) pv s → d < length s → r ≡ getD s d 0) ⌝ }
+{
+    let mut cur = next[0];
+    let mut i: usize = 0;
+    while i < d {
+        let at = to_index(cur);
+        cur = next[at];
+        i += 1;
+    }
+    cur
+}

@@ -1,3 +1,0 @@
-pub mod Succession
-pub mod Reading
-pub mod Succeeds

@@ -1,0 +1,23 @@
+-- All theorems together.
+use Rattle.theorems.specs.Theorems.{Theorems}
+use Rattle.theorems.proofs.Demand2.{demand-2}
+use Rattle.theorems.proofs.Demand3.{demand-3}
+use Rattle.theorems.proofs.Corollaries.{corollaries-hold}
+use Rattle.theorems.proofs.Blocks.{blocks-are-steps, marked-blocks-are-steps, walk-agrees-holds}
+use Rattle.theorems.proofs.BookNumbers.{book-numbers}
+use Rattle.theorems.proofs.Determined.{determined}
+use Rattle.theorems.proofs.Table.{table, limits}
+
+pub theorems : Theorems
+theorems = record {
+  demand-2 = demand-2;
+  demand-3 = demand-3;
+  corollaries = corollaries-hold;
+  blocks = blocks-are-steps;
+  marked-blocks = marked-blocks-are-steps;
+  walk = walk-agrees-holds;
+  book-numbers = book-numbers;
+  determined = determined;
+  table = table;
+  limits = limits;
+}

@@ -1,0 +1,19 @@
+-- The answers of the share book by document 01's numbers. The promise of each of its operations is that the answer is a function of the book and
+-- the arguments (crate book, Calls: open-answer, claim-answer, ..); the number of that answer (crate book, Answers) is the number of the first of
+-- 01's conditions that applies, in 01's order, and 0 where none does (crate book, Calls: open-number, claim-number, ..).
+use mathlib.Core.Path.{_≡_}
+use mathlib.Core.Bool.{cond}
+use Prim.Native.Nat.{ℕ}
+use Rattle.book.specs.declared.types.Book.{Book}
+use Rattle.book.specs.Answers.{opening-number, claiming-number, taking-number, committing-number, releasing-number, reporting-number}
+use Rattle.book.specs.Sound.{sound}
+use Rattle.book.specs.Calls as calls
+
+pub record BookNumbers : Type 0 where
+  pub opening : (n k : ℕ) → opening-number (calls.open-answer n k) ≡ calls.open-number n k
+  pub claim : (b : Book) (tick share length : ℕ) → claiming-number (calls.claim-answer b tick share length) ≡ calls.claim-number b tick share length
+  pub take : (b : Book) (tick ticket l0 l1 lw : ℕ) → taking-number (calls.take-answer b tick ticket l0 l1 lw) ≡ calls.take-number b tick ticket l0 l1 lw
+  pub commit : (b : Book) (tick ticket position : ℕ) → committing-number (calls.commit-answer b tick ticket position) ≡ calls.commit-number b tick ticket position
+  pub release : (b : Book) (tick ticket : ℕ) → releasing-number (calls.release-answer b tick ticket) ≡ calls.release-number b tick ticket
+  -- the report refuses 50 alone
+  pub report : (b : Book) → reporting-number (calls.report-answer b) ≡ cond (sound b) 0 50

@@ -1,0 +1,28 @@
+-- All statements of this crate together: what the user demands, and what follows from it.
+use Rattle.theorems.specs.Demand2.{Demand2}
+use Rattle.theorems.specs.Demand3.{Demand3}
+use Rattle.theorems.specs.Corollaries.{CorollariesHold}
+use Rattle.theorems.specs.Blocks.{BlocksAreSteps, MarkedBlocksAreSteps, WalkAgreesHolds}
+use Rattle.theorems.specs.BookNumbers.{BookNumbers}
+use Rattle.theorems.specs.Determined.{Determined}
+use Rattle.theorems.specs.Table.{Table, Limits}
+
+pub record Theorems : Type 0 where
+  -- the labelling is Vidal's; counts, positions and invariants equal their definitions
+  pub demand-2 : Demand2
+  -- the share book, the run and the keep mark
+  pub demand-3 : Demand3
+  -- what users look for in the first list: tickets that have ended, releases, the report
+  pub corollaries : CorollariesHold
+  -- a listing in blocks is a history of steps, without and with keep marks
+  pub blocks : BlocksAreSteps
+  pub marked-blocks : MarkedBlocksAreSteps
+  -- the plain walk agrees with the run
+  pub walk : WalkAgreesHolds
+  -- the share book's answers have 01's numbers
+  pub book-numbers : BookNumbers
+  -- every other promise leaves one answer, and one content of what was lent
+  pub determined : Determined
+  -- 01's table (a) to (l), and the edges beside it
+  pub table : Table
+  pub limits : Limits

@@ -1,0 +1,264 @@
+-- What each event does to the state that the arrays hold, and when it is refused; the same for the first item and for the end.
+-- One law for each way out of the code.
+use mathlib.Core.Path.{_≡_, refl, sym, ap, _∙_}
+use mathlib.Core.Bool.{cond}
+use mathlib.Core.List.{List, [], _∷_, _++_}
+use Prim.Native.Nat.{ℕ, zero, suc, _+_, _-_, _≤_, _<_}
+use native.Mathlib.Nat.{pos-of-ne-zero}
+use native.Mathlib.Numerals.{add-one}
+use native.Mathlib.Omega.{arith}
+use lib.Dec.{leb}
+use lib.ListN.{length, getD, set, take, drop, length-set, length-drop, drop-of-length-le}
+use lib.Seq.{drop-cons, length-take-le, take-suc-set}
+use Rattle.lists.specs.Lists.{Has, All, find, removeAt, put}
+use Rattle.lists.specs.Ranges.{OneTo}
+use Rattle.lists.proofs.Tests.{le-true, le-false, lt-true, lt-false}
+use Rattle.lists.proofs.Lists.{has-getD, find-getD, all-removeAt, all-map, all-has, length-removeAt, length-put, length-0, rest-is}
+use Rattle.pending_ring.specs.Ring.{Ring}
+use Rattle.pending_ring.proofs.Laws.{ring-labels}
+use Rattle.words_reading.specs.declared.Step.the-variants.{Next}
+use Rattle.words_reading.specs.declared.Reading.the-variants.{Size}
+use Rattle.words_reading.specs.Read.{Read, refused, built, items, readFirst, read, withRoom, readAnswer, ReadPromise}
+use Rattle.words_reading.specs.State.{State, afterU, afterT, readOn, ReadingHeld, ReadingAfter}
+use Rattle.words_reading.proofs.Stores.{take-3, take-put}
+
+two : (u : ℕ) → u + 2 ≡ suc (suc u)
+two u = omega arith
+
+three : (u : ℕ) → u + 3 ≡ suc (suc (suc u))
+three u = omega arith
+
+all-drop : (P : ℕ → Type 0) (s : List ℕ) → All P s → All P (drop 1 s)
+all-drop P [] a = a
+all-drop P (x ∷ s) a = a .1
+
+-- the state after the pop
+abbrev pub popped : State → State
+popped t = record { stack = drop 1 (t .stack); black = t .black; white = t .white }
+
+module _ (nx pv x0 x1 : List ℕ) (u h : ℕ) (t : State) (o : ReadingHeld nx pv x0 x1 u h t) where
+  size : length (t .black) ≡ u
+  size = ap length (o .blacks) ∙ length-take-le u x0 (omega (arith, o .room, o .black-long))
+
+  -- a label that is not given yet is not pending
+  pub fresh : (l : ℕ) → u < l → ¬ Has l (t .stack)
+  fresh l k i = let z = all-has (λ x. x ≤ u) (t .stack) l (o .given) i in omega arith
+
+  -- a pending label is one of those given
+  pub pending-given : (d : ℕ) → d < h → OneTo u (getD (t .stack) d 0)
+  pending-given d g =
+      let i = has-getD (t .stack) d (omega (arith, o .high)) in
+      let a = ring-labels nx pv (t .stack) (o .ring) (getD (t .stack) d 0) i in
+      let b = all-has (λ x. x ≤ u) (t .stack) (getD (t .stack) d 0) (o .given) i in
+      omega arith
+
+  -- ---- F
+
+  pub triple-refused : (k : ℕ) (w : List ℕ) → 1024 < u + 3 → items (1 ∷ w) (k ∷ t .stack) (t .black) (t .white) ≡ refused 24
+  unfolding items
+  triple-refused k w g = rw (le-false (suc (suc (suc (length (t .black))))) 1024 (omega (arith, size)))
+
+  pub triple-stands : (k : ℕ) (w : List ℕ) (i : ℕ) (mx pw y1 : List ℕ) → OneTo u k → u + 3 ≤ 1024 → i ≡ u → y1 ≡ put (put x1 k (u + 1)) (u + 1) k
+      → Ring mx pw ((u + 3) ∷ (u + 2) ∷ t .stack)
+      → ReadingAfter (items (1 ∷ w) (k ∷ t .stack) (t .black) (t .white)) w (Next (u + 3) (h + 2)) mx pw
+      (set (set (set x0 i (u + 2)) (i + 1) (u + 3)) (i + 2) (u + 1)) (set (set y1 (i + 1) (u + 2)) (i + 2) (u + 3))
+  unfolding items
+  triple-stands k w i mx pw y1 e g p q r = (
+    record {
+      stack = suc (suc (suc (length (t .black)))) ∷ suc (suc (length (t .black))) ∷ t .stack;
+      black = t .black ++ (suc (suc (length (t .black))) ∷ suc (suc (suc (length (t .black)))) ∷ suc (length (t .black)) ∷ []);
+      white = put (t .white) k (suc (length (t .black))) ++ (k ∷ suc (suc (length (t .black))) ∷ suc (suc (suc (length (t .black)))) ∷ []);
+    },
+    record {
+      ring = rw (size, ← three u, ← two u) r;
+      given = (omega (arith, size), (omega (arith, size), all-map (λ l. l ≤ u) (λ l. l ≤ u + 3) (λ l z. omega arith) (t .stack) (o .given)));
+      room = g;
+      high = omega (arith, o .high);
+      black-long = simp length-set (o .black-long);
+      white-long = rw q (simp (length-set, length-put) (o .white-long));
+      blacks = rw (size, o .blacks, p, add-one u, two u, three u) (sym (take-3 x0 u (suc (suc u)) (suc (suc (suc u))) (suc u) (omega (arith, o .black-long))));
+      whites = rw (size, o .whites, q, p, add-one u, two u, three u)
+          (ap (λ (z : List ℕ). z ++ (k ∷ suc (suc u) ∷ suc (suc (suc u)) ∷ [])) (sym (take-put x1 u k (suc u) (e .1)))
+          ∙ sym (take-3 (put x1 k (suc u)) u k (suc (suc u)) (suc (suc (suc u))) (rw length-put (omega (arith, o .white-long)))));
+    },
+    rw (le-true (suc (suc (suc (length (t .black))))) 1024 (omega (arith, size))),
+  )
+
+  -- ---- B
+
+  pub alone-refused : (k : ℕ) (w : List ℕ) → 1024 < u + 1 → items (2 ∷ w) (k ∷ t .stack) (t .black) (t .white) ≡ refused 24
+  unfolding items
+  alone-refused k w g = rw (le-false (suc (length (t .black))) 1024 (omega (arith, size)))
+
+  pub alone-stands : (k : ℕ) (w : List ℕ) (i : ℕ) (y1 : List ℕ) → OneTo u k → u + 1 ≤ 1024 → i ≡ u → y1 ≡ put (put x1 k (u + 1)) (u + 1) k
+      → ReadingAfter (items (2 ∷ w) (k ∷ t .stack) (t .black) (t .white)) w (Next (u + 1) h) nx pv (set x0 i (u + 1)) y1
+  unfolding items
+  alone-stands k w i y1 e g p q = (
+    record { stack = t .stack; black = t .black ++ (suc (length (t .black)) ∷ []); white = put (t .white) k (suc (length (t .black))) ++ (k ∷ []) },
+    record {
+      ring = o .ring;
+      given = all-map (λ l. l ≤ u) (λ l. l ≤ u + 1) (λ l z. omega arith) (t .stack) (o .given);
+      room = g;
+      high = o .high;
+      black-long = simp length-set (o .black-long);
+      white-long = rw q (simp length-put (o .white-long));
+      blacks = rw (size, o .blacks, p, add-one u) (sym (take-suc-set x0 u (suc u) (omega (arith, o .black-long))));
+      whites = rw (size, o .whites, q, add-one u)
+          (ap (λ (z : List ℕ). z ++ (k ∷ [])) (sym (take-put x1 u k (suc u) (e .1)))
+          ∙ sym (take-suc-set (put x1 k (suc u)) u k (rw length-put (omega (arith, o .white-long)))));
+    },
+    rw (le-true (suc (length (t .black))) 1024 (omega (arith, size))),
+  )
+
+  -- ---- Jd
+
+  pub join-refused : (k d : ℕ) (w : List ℕ) → h ≤ d → items (suc (suc (suc d)) ∷ w) (k ∷ t .stack) (t .black) (t .white) ≡ refused 23
+  unfolding items
+  join-refused k d w g = rw (lt-false d (length (t .stack)) (omega (arith, o .high)))
+
+  pub join-stands : (k d p : ℕ) (w : List ℕ) (mx pw y1 : List ℕ) → OneTo u k → d < h → p ≡ getD (t .stack) d 0 → y1 ≡ put (put x1 k p) p k
+      → Ring mx pw (removeAt (find p (t .stack)) (t .stack))
+      → ReadingAfter (items (suc (suc (suc d)) ∷ w) (k ∷ t .stack) (t .black) (t .white)) w (Next u (h - 1)) mx pw x0 y1
+  unfolding items
+  join-stands k d p w mx pw y1 e g f q r =
+      let l : d < length (t .stack) = omega (arith, o .high) in
+      let n = pending-given d g in (
+        record { stack = removeAt d (t .stack); black = t .black; white = put (put (t .white) k (getD (t .stack) d 0)) (getD (t .stack) d 0) k },
+        record {
+          ring = rw (f, find-getD (t .stack) d (o .ring .once .1) l) at r;
+          given = all-removeAt (λ x. x ≤ u) d (t .stack) (o .given);
+          room = o .room;
+          high = let c = length-removeAt d (t .stack) l in omega (arith, o .high);
+          black-long = o .black-long;
+          white-long = rw q (simp length-put (o .white-long));
+          blacks = o .blacks;
+          whites = rw (q, f, o .whites)
+              (ap (λ (z : List ℕ). put z (getD (t .stack) d 0) k) (sym (take-put x1 u k (getD (t .stack) d 0) (e .1)))
+              ∙ sym (take-put (put x1 k (getD (t .stack) d 0)) u (getD (t .stack) d 0) k (n .1)));
+        },
+        rw (lt-true d (length (t .stack)) l),
+      )
+
+  -- ---- the pop
+
+  pub popped-holds : (mx pw : List ℕ) → Ring mx pw (drop 1 (t .stack)) → ReadingHeld mx pw x0 x1 u (h - 1) (popped t)
+  popped-holds mx pw r = record {
+    ring = r;
+    given = all-drop (λ l. l ≤ u) (t .stack) (o .given);
+    room = o .room;
+    high = rw length-drop (omega (arith, o .high));
+    black-long = o .black-long;
+    white-long = o .white-long;
+    blacks = o .blacks;
+    whites = o .whites;
+  }
+
+  -- an item meets the label k that was popped and the stack below it
+  pub item-met : (item item′ k : ℕ) (w : List ℕ) → ¬ (h ≡ 0) → item ≡ item′ → k ≡ getD (t .stack) 0 0
+      → readOn (item ∷ w) t ≡ items (item′ ∷ w) (k ∷ drop 1 (t .stack)) (t .black) (t .white)
+  item-met item item′ k w g e f =
+      rw (e, f) (ap (λ (s : List ℕ). items (item′ ∷ w) s (t .black) (t .white)) (drop-cons (t .stack) 0 0 (pos-of-ne-zero (λ z. g (o .high ∙ z)))))
+
+  -- W
+  pub alone-closed : (k : ℕ) (w : List ℕ) → items (0 ∷ w) (k ∷ drop 1 (t .stack)) (t .black) (t .white) ≡ readOn w (popped t)
+  unfolding items
+  alone-closed k w = refl
+
+  pub item-refused : h ≡ 0 → (item : ℕ) (w : List ℕ) → readOn (item ∷ w) t ≡ refused 26
+  unfolding items
+  item-refused g item w = rw (length-0 (t .stack) (sym (o .high) ∙ g))
+
+  -- ---- the end of the items
+
+  pub end-refused : ¬ (h ≡ 0) → readOn [] t ≡ refused 25
+  unfolding items
+  end-refused g = rw (drop-cons (t .stack) 0 0 (pos-of-ne-zero (λ e. g (o .high ∙ e))))
+
+  end-built : h ≡ 0 → readOn [] t ≡ built record { black = t .black; white = t .white }
+  unfolding items
+  end-built g = rw (length-0 (t .stack) (sym (o .high) ∙ g))
+
+  module _ (g : h ≡ 0) (a b : List ℕ) where
+    pub room-refused-black : length a < u → withRoom (readOn [] t) (length a) (length b) ≡ refused 9
+    room-refused-black l = rw (end-built g, le-false (length (t .black)) (length a) (omega (arith, size)))
+
+    pub room-refused-white : u ≤ length a → length b < u → withRoom (readOn [] t) (length a) (length b) ≡ refused 9
+    room-refused-white k l = rw (end-built g, le-true (length (t .black)) (length a) (omega (arith, size)), le-false (length (t .black)) (length b) (omega (arith, size)))
+
+    pub room-gave : (n : ℕ) (c d : List ℕ) → n ≡ u → u ≤ length a → u ≤ length b
+        → c ≡ cond (leb (length (take n x0)) (length a)) (take n x0 ++ drop (length (take n x0)) a) a
+        → d ≡ cond (leb (length (take n x1)) (length b)) (take n x1 ++ drop (length (take n x1)) b) b
+        → ReadPromise (withRoom (readOn [] t) (length a) (length b)) (Size u) a b c d
+    room-gave n c d e k l p q =
+        rw (end-built g, le-true (length (t .black)) (length a) (omega (arith, size)), le-true (length (t .black)) (length b) (omega (arith, size)), size, o .blacks, o .whites)
+        (refl, filled x0 a c (omega (arith, o .black-long)) k (rw e at p), filled x1 b d (omega (arith, o .white-long)) l (rw e at q))
+      where
+        filled : (x a c : List ℕ) → u ≤ length x → u ≤ length a → c ≡ cond (leb (length (take u x)) (length a)) (take u x ++ drop (length (take u x)) a) a
+            → c ≡ take u x ++ drop u a
+        filled x a c i j f = f ∙ rw (length-take-le u x i, le-true u (length a) j)
+
+-- ---- the first item
+
+module _ (nx pv x0 x1 : List ℕ) (e : length x0 ≡ 1024) (f : length x1 ≡ 1024) where
+  pub alone-first : Ring nx pv (1 ∷ []) → ReadingHeld nx pv (set x0 0 1) (set x1 0 1) 1 1 afterU
+  alone-first r = record {
+    ring = r;
+    given = (omega arith, tt);
+    room = omega arith;
+    high = refl;
+    black-long = simp length-set e;
+    white-long = simp length-set f;
+    blacks = sym (take-suc-set x0 0 1 (omega arith));
+    whites = sym (take-suc-set x1 0 1 (omega arith));
+  }
+
+  pub triple-first : Ring nx pv (3 ∷ 2 ∷ 1 ∷ [])
+      → ReadingHeld nx pv (set (set (set x0 0 2) 1 3) 2 1) (set (set (set x1 0 1) 1 2) 2 3) 3 3 afterT
+  triple-first r = record {
+    ring = r;
+    given = (omega arith, (omega arith, (omega arith, tt)));
+    room = omega arith;
+    high = refl;
+    black-long = simp length-set e;
+    white-long = simp length-set f;
+    blacks = sym (take-3 x0 0 2 3 1 (omega arith));
+    whites = sym (take-3 x1 0 1 2 3 (omega arith));
+  }
+
+pub opening-alone : (w : List ℕ) → 0 < length w → getD w 0 0 ≡ 0 → readFirst w ≡ readOn (take (length w - 1) (drop 1 w)) afterU
+opening-alone [] h e = absurd (omega arith)
+opening-alone (x ∷ w) h e = rw (rest-is x w, e)
+
+pub opening-triple : (w : List ℕ) → 0 < length w → getD w 0 0 ≡ 1 → readFirst w ≡ readOn (take (length w - 1) (drop 1 w)) afterT
+opening-triple [] h e = absurd (omega arith)
+opening-triple (x ∷ w) h e = rw (rest-is x w, e)
+
+pub opening-refused : (w : List ℕ) → 0 < length w → ¬ (getD w 0 0 ≡ 0) → ¬ (getD w 0 0 ≡ 1) → readFirst w ≡ refused 22
+opening-refused [] h m n = absurd (omega arith)
+opening-refused (zero ∷ w) h m n = absurd (m refl)
+opening-refused (suc zero ∷ w) h m n = absurd (n refl)
+opening-refused (suc (suc x) ∷ w) h m n = refl
+
+-- ---- the items one by one
+
+-- i items have led to the state st, and the next one leads on to q
+pub rest-next : (rest : List ℕ) (i : ℕ) (t st : State) (q : Read) → i < length rest
+    → readOn rest t ≡ readOn (drop i rest) st → readOn (getD rest i 0 ∷ drop (i + 1) rest) st ≡ q → readOn rest t ≡ q
+rest-next rest i t st q h e f = rw (e, drop-cons rest i 0 h, ← add-one i) f
+
+pub rest-end : (rest : List ℕ) (i : ℕ) (t : State) → length rest ≤ i → readOn (drop i rest) t ≡ readOn [] t
+rest-end rest i t h = rw (drop-of-length-le rest h)
+
+-- ---- the whole word
+
+pub answer-empty : (w : List ℕ) (a b : ℕ) → length w ≡ 0 → readAnswer w a b ≡ refused 21
+unfolding readAnswer read
+answer-empty w a b e = rw (length-0 w e)
+
+pub answer-long : (w : List ℕ) (a b : ℕ) → 1025 < length w → readAnswer w a b ≡ refused 21
+unfolding readAnswer read
+answer-long w a b h = rw (le-false (length w) 1025 h)
+
+pub answer-opening : (w : List ℕ) (a b : ℕ) → length w ≤ 1025 → readAnswer w a b ≡ withRoom (readFirst w) a b
+unfolding readAnswer read
+answer-opening w a b h = rw (le-true (length w) 1025 h)

@@ -1,0 +1,88 @@
+-- Laws of a word's items, of the pile, and of writing over the beginning of a list.
+use mathlib.Core.Path.{_≡_, refl, ap, _∙_}
+use mathlib.Core.Logic.{_≢_, _⊎_, inl, inr}
+use mathlib.Core.List.{List, [], _∷_, _++_, append-assoc}
+use Prim.Native.Nat.{ℕ, zero, suc, _+_, _-_, _≤_, _<_}
+use native.Mathlib.Nat.{not-suc-le-zero}
+use native.Mathlib.Numerals.{add-one}
+use native.Mathlib.Omega.{arith}
+use lib.ListN.{length, getD, set, drop, length-set}
+use lib.Seq.{getD-set-same, getD-set-other, drop-cons}
+use Rattle.lists.specs.Lists.{put, removeAt}
+use Rattle.lists.specs.Ranges.{OneTo}
+use Rattle.lists.proofs.Tests.{same?}
+use Rattle.lists.proofs.Lists.{length-removeAt, length-put, length-1, put-place, put-left}
+use Rattle.words.proofs.Outputs.{over-one}
+use Rattle.words.specs.Outputs.{overwrite}
+use Rattle.words_spelling.specs.Spelling.{setThree, StackHeld, Shifted}
+
+-- the items from place i on begin with the one there
+pub next-item : (w : List ℕ) (i : ℕ) → i < length w → drop i w ≡ getD w i 0 ∷ drop (i + 1) w
+next-item w i l = rw add-one (drop-cons w i 0 l)
+
+-- an item that is not W, F or B is Jd
+pub jump-item : (x d : ℕ) → (x ≡ 0 → ⊥) → (x ≡ 1 → ⊥) → (x ≡ 2 → ⊥) → d ≡ x - 3 → x ≡ suc (suc (suc d))
+jump-item zero d a b e f = absurd (a refl)
+jump-item (suc zero) d a b e f = absurd (b refl)
+jump-item (suc (suc zero)) d a b e f = absurd (e refl)
+jump-item (suc (suc (suc x))) d a b e f = omega arith
+
+-- ---- the pile
+
+pub stacked-same : (p q r : List ℕ) → ((j : ℕ) → j < length r → getD q j 0 ≡ getD p j 0) → StackHeld p r → StackHeld q r
+stacked-same p q [] e h = tt
+stacked-same p q (k ∷ r) e h = (e (length r) (omega arith) ∙ h .0, stacked-same p q r (λ j l. e j (omega arith)) (h .1))
+
+pub stacked-push : (stack r : List ℕ) (j v : ℕ) → j ≡ length r → j < length stack → StackHeld stack r → StackHeld (set stack j v) (v ∷ r)
+stacked-push stack r j v e l h = (rw (← e) (getD-set-same stack j v 0 l), stacked-same stack (set stack j v) r (λ i k. getD-set-other stack j i v 0 (λ q. omega arith)) h)
+
+-- d places below the top
+pub stacked-at : (stack r : List ℕ) (d at : ℕ) → d < length r → at + suc d ≡ length r → StackHeld stack r → getD stack at 0 ≡ getD r d 0
+stacked-at stack [] d at l e h = absurd (not-suc-le-zero l)
+stacked-at stack (k ∷ r) zero at l e h = let q : at ≡ length r = omega arith in rw q (h .0)
+stacked-at stack (k ∷ r) (suc d) at l e h = stacked-at stack r d at (omega arith) (omega arith) (h .1)
+
+pub stacked-removeAt : (p q r : List ℕ) (d at end : ℕ) → Shifted p q at end → d < length r → at + suc d ≡ length r → length r ≤ suc end → StackHeld p r → StackHeld q (removeAt d r)
+stacked-removeAt p q [] d at end s l e m h = absurd (not-suc-le-zero l)
+stacked-removeAt p q (k ∷ r) zero at end s l e m h = stacked-same p q r (λ j i. s .below j (omega arith)) (h .1)
+stacked-removeAt p q (k ∷ r) (suc d) at end s l e m h =
+    let z = length-removeAt d r (omega arith) in
+    (s .moved (length (removeAt d r)) (omega arith) (omega arith) ∙ rw z (h .0), stacked-removeAt p q r d at end s (omega arith) (omega arith) (omega arith) (h .1))
+
+-- the loop that moves entries down: those before the place i are moved
+pub record Sliding (p q : List ℕ) (at i : ℕ) : Type 0 where
+  pub closed : Shifted p q at i
+  pub ahead : (j : ℕ) → i ≤ j → getD q j 0 ≡ getD p j 0
+
+pub sliding-none : (p : List ℕ) (at : ℕ) → Sliding p p at at
+sliding-none p at = record { closed = record { long = refl; below = λ j l. refl; moved = λ j l m. absurd (omega arith) }; ahead = λ j l. refl }
+
+pub sliding-more : (p q : List ℕ) (at i : ℕ) → at ≤ i → i < length p → Sliding p q at i → Sliding p (set q i (getD q (i + 1) 0)) at (i + 1)
+sliding-more p q at i l m s = record {
+  closed = record {
+    long = length-set q i _ ∙ s .closed .long;
+    below = λ j h. getD-set-other q i j _ 0 (λ e. omega arith) ∙ s .closed .below j h;
+    moved = λ j h g. go j h g (same? j i);
+  };
+  ahead = λ j h. getD-set-other q i j _ 0 (λ e. omega arith) ∙ s .ahead j (omega arith);
+}
+  where
+    go : (j : ℕ) → at ≤ j → j < i + 1 → (j ≡ i) ⊎ (j ≢ i) → getD (set q i (getD q (i + 1) 0)) j 0 ≡ getD p (suc j) 0
+    go j h g (inl e) = rw (e, getD-set-same q i (getD q (i + 1) 0) 0 (rw (s .closed .long) m), add-one) (s .ahead (suc i) (omega arith))
+    go j h g (inr n) = getD-set-other q i j _ 0 n ∙ s .closed .moved j h (omega arith)
+
+-- ---- a list whose beginning is written over
+
+pub over-three : (s a : List ℕ) (i x y z : ℕ) → i ≡ length s → i + 3 ≤ length a → setThree (overwrite s a) i x y z ≡ overwrite (s ++ (x ∷ y ∷ z ∷ [])) a
+over-three s a i x y z e l =
+    ap (λ (t : List ℕ). set (set t (i + 1) y) (i + 2) z) (over-one s a i x e (omega arith))
+    ∙ ap (λ (t : List ℕ). set t (i + 2) z) (over-one (s ++ (x ∷ [])) a (i + 1) y (rw length-1 (omega arith)) (omega arith))
+    ∙ over-one ((s ++ (x ∷ [])) ++ (y ∷ [])) a (i + 2) z (simp length-1 (omega arith)) (omega arith)
+    ∙ ap (λ (t : List ℕ). overwrite t a) joined
+  where
+    joined : ((s ++ (x ∷ [])) ++ (y ∷ [])) ++ (z ∷ []) ≡ s ++ (x ∷ y ∷ z ∷ [])
+    joined = simp append-assoc
+
+-- an entry already written
+pub over-put : (s a : List ℕ) (k v : ℕ) → OneTo (length s) k → set (overwrite s a) (k - 1) v ≡ overwrite (put s k v) a
+over-put s a k v e = rw (put-place (overwrite s a) k v (e .0), put-left s (drop (length s) a) k v e, length-put)

@@ -1,0 +1,56 @@
+-- A diagram while its word is written out: what the lent lists and the pile of pending labels hold between two events.
+-- Lists named a are as they were lent, lists named b as they are now.
+--
+--   setThree s i a b c             s with a, b, c at the places i, i + 1, i + 2
+--   paired s a b                s with the labels a and b as each other's partners
+--   StackHeld pile pending          the pile holds the pending labels, the bottom of the stack at place 0
+--   Shifted p q at end          q is p with the entry at `at` taken out and those after it, up to the place `end`, moved down by one
+--   SpellingRoom D a0 a1                the diagram D is of a listed size, and the lists have places enough for it
+--   SpellingHeld pending s0 s1 ..      the pile holds the pending labels, and the lists begin with s0 and s1, those of the labels given so far
+--   SpellingState D w S ..             the lists and the pile hold the state S, and the items w finish the diagram D from it
+use mathlib.Core.Path.{_≡_}
+use mathlib.Core.Option.{some}
+use mathlib.Core.List.{List, [], _∷_}
+use Prim.Native.Nat.{ℕ, suc, _+_, _-_, _≤_, _<_}
+use lib.ListN.{length, getD, set}
+use Rattle.lists.specs.Lists.{All}
+use Rattle.lists.specs.Ranges.{OneTo}
+use Rattle.words.specs.Word.{Pair, spells}
+use Rattle.words.specs.Outputs.{overwrite}
+use Rattle.words_spelling.specs.States.{State}
+
+abbrev pub setThree : List ℕ → ℕ → ℕ → ℕ → ℕ → List ℕ
+setThree s i a b c = set (set (set s i a) (i + 1) b) (i + 2) c
+
+abbrev pub paired : List ℕ → ℕ → ℕ → List ℕ
+paired s a b = set (set s (a - 1) b) (b - 1) a
+
+abbrev pub StackHeld : List ℕ → List ℕ → Type 0
+StackHeld stack [] = Unit {0}
+StackHeld stack (k ∷ r) = (getD stack (length r) 0 ≡ k) × StackHeld stack r
+
+pub record Shifted (p q : List ℕ) (at end : ℕ) : Type 0 where
+  pub long : length q ≡ length p
+  pub below : (j : ℕ) → j < at → getD q j 0 ≡ getD p j 0
+  pub moved : (j : ℕ) → at ≤ j → j < end → getD q j 0 ≡ getD p (suc j) 0
+
+pub record SpellingRoom (D : Pair) (a0 a1 : List ℕ) : Type 0 where
+  pub small : length (D .black) ≤ 50
+  pub room0 : length (D .black) ≤ length a0
+  pub room1 : length (D .black) ≤ length a1
+
+pub record SpellingHeld (pending s0 s1 a0 a1 stack b0 b1 : List ℕ) (used : ℕ) : Type 0 where
+  pub long : length stack ≡ 64
+  pub stacked : StackHeld stack pending
+  pub used-is : used ≡ length s0
+  pub even : length s1 ≡ used
+  pub within : All (OneTo used) pending
+  pub low : length pending ≤ used
+  pub s0-is : b0 ≡ overwrite s0 a0
+  pub s1-is : b1 ≡ overwrite s1 a1
+
+pub record SpellingState (D : Pair) (w : List ℕ) (S : State) (a0 a1 stack b0 b1 : List ℕ) (used height : ℕ) : Type 0 where
+  pub goes : spells w (S .pending) (S .black) (S .white) ≡ some D
+  pub holds : SpellingHeld (S .pending) (S .black) (S .white) a0 a1 stack b0 b1 used
+  pub height-is : height ≡ length (S .pending)
+  pub room : SpellingRoom D a0 a1
