@@ -1,4 +1,4 @@
--- What an accepted call tells of the book, and that the book it leaves is sound again.
+-- What an accepted call tells of the book, and that the book it leaves is valid again.
 use mathlib.Core.Path.{_≡_, refl, sym, _∙_}
 use mathlib.Core.Logic.{_≢_, _⊎_, inl, inr}
 use mathlib.Core.Bool.{Bool, true, false, cond}

@@ -1,4 +1,4 @@
--- The test `sound` as facts, and that the entries an operation writes keep a book sound.
+-- The test `sound` as facts, and that the entries an operation writes keep a book valid.
 use mathlib.Core.Path.{_≡_, refl, sym, ap, _∙_, subst}
 use mathlib.Core.Logic.{_≢_, _⊎_, inl, inr, ⊎-elim}
 use mathlib.Core.Bool.{Bool, true, false, true≢false, cond}
@@ -17,7 +17,7 @@ use Rattle.book.specs.Shares.{first, last, next, ticket, expiry, finishe
 use Rattle.book.specs.Sound.{both, either, among, in-range, next-in, finished-free, ticket-once, ticket-issued, expiry-in, share-sound, entry-unused, entries-sound, counters-in, sound}
 use Rattle.book.specs.Calls.{entered, ticked}
 
--- what is sound at share j
+-- what is valid at share j
 pub record ShareSound (b : Book) (j : ℕ) : Type 0 where
   pub from : first (b .size) (b .shares) j ≤ next b j
   pub to : next b j ≤ suc (last (b .size) (b .shares) j)

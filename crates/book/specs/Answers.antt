@@ -1,10 +1,10 @@
 -- The answers of the share book's operations, as document 01 numbers them: a number is 01's of the refusal, 0 where the call is
 -- accepted; a value is the answer's own, or `old` where the answer has no such value.
 --
---   opening-number, .., reporting-number      the number of each operation's answer
---   claiming-ticket                            the ticket given
+--   opening-number, .., reporting-number           the number of each operation's answer
+--   claiming-ticket                                the ticket given
 --   taking-share, taking-position, taking-length   the share, the position and the word's length
---   reporting-committed, reporting-complete    how many positions are committed; 1 complete, 0 not
+--   reporting-committed, reporting-complete        how many positions are committed; 1 complete, 0 not
 use mathlib.Core.Bool.{Bool, true, false, cond}
 use Prim.Native.Nat.{ℕ}
 use Rattle.book.specs.declared.types.Opening.{Opening}

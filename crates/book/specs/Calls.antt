@@ -1,20 +1,23 @@
 -- What each operation of the share book answers and the book that it leaves, as functions of the book and the arguments (document 01,
 -- "Share book"). A refused call leaves the book as it was.
 --
---   unless t k rest            the number k where the test t fails, otherwise rest; 01's conditions in 01's order are a chain of these
---   open-number ..             the number of the first condition that applies to an open, 0 where none does; so for claim, take, commit, release
---   open-answer ..             the answer of an open: accepted with its values, or refused with that number; so for the others and the report
---   open-book ..               the book that an open leaves; so for claim, take, commit and release. The report alters nothing
---   opened n k                 the book of size n in k shares, each at its first position, without tickets
---   entered b tick issues j p t e   the book b with the next position p, the ticket t and the expiry e at share j, that latest tick, those issued
---   ticked b tick              the book b with that latest tick
---   tick-in b tick             the tick is not below the latest, and below 2^48 (refusal 52)
---   held b j tick              a ticket stands at share j and has not lapsed (refusal 56)
---   ticket-number b tick t rest     what take, commit and release ask first: 50, 52, 58, 59
---   due b t                    the next position of the share where the ticket t stands
---   room n l0 l1 lw            lists of these lengths hold a diagram of n edges and its word (refusal 9)
---   take-list .. x a           what a take leaves in the lent list a, of which it writes x over the beginning where it is accepted
---   movedOn b tick j             the book b with share j moved on by one; past the last position its ticket ends
+--   unless t k rest                 the number k where the test t fails, otherwise rest; 01's conditions in 01's order are a chain of these
+--   open-number ..                  the number of the first condition that applies to an open, 0 where none does; so for claim, take, commit
+--                                   and release
+--   open-answer ..                  the answer of an open: accepted with its values, or refused with that number; so for the others and the
+--                                   report
+--   open-book ..                    the book that an open leaves; so for claim, take, commit and release. The report alters nothing
+--   opened n k                      the book of size n in k shares, each at its first position, without tickets
+--   entered b tick issues j p t e   the book b with the next position p, the ticket t and the expiry e at share j, that latest tick, those
+--                                   issued
+--   ticked b tick                   the book b with that latest tick
+--   tick-in b tick                  the tick is not below the latest, and below 2^48 (refusal 52)
+--   held b j tick                   a ticket stands at share j and has not lapsed (refusal 56)
+--   ticket-number b tick t rest     what take, commit and release check first: 50, 52, 58, 59
+--   due b t                         the next position of the share where the ticket t stands
+--   room n l0 l1 lw                 lists of these lengths hold a diagram of n edges and its word (refusal 9)
+--   take-list .. x a                what a take leaves in the lent list a, of which it writes x over the beginning where it is accepted
+--   movedOn b tick j                the book b with share j moved on by one; past the last position its ticket ends
 use mathlib.Core.Path.{_≡_}
 use mathlib.Core.Bool.{Bool, true, false, cond}
 use mathlib.Core.List.{List, []}
@@ -42,14 +45,14 @@ use Rattle.book.specs.declared.types.Reporting.the-variants as reporting
 use Rattle.book.specs.Shares.{first, next, finished, committed, complete, holder, lapsed}
 use Rattle.book.specs.Sound.{both, either, among, sound}
 
--- refusal k unless the test holds; the tests are asked in the order in which they stand
+-- refusal k unless the test holds; the tests are made in the order in which they stand
 abbrev pub unless : Bool → ℕ → ℕ → ℕ
 unless t k rest = cond t rest k
 
 abbrev pub not : Bool → Bool
 not b = cond b false true
 
--- ---- open: 31, 51
+-- ---- open, a new lease table: 31, 51
 
 unfoldable pub open-number : ℕ → ℕ → ℕ
 open-number n k = unless (among 50 n) 31 (unless (among 32 k) 51 0)
@@ -93,7 +96,7 @@ ticked b tick = record { size = b .size; shares = b .shares; latest = tick; issu
 unfoldable pub tick-in : Book → ℕ → Bool
 tick-in b tick = both (leb (b .latest) tick) (ltb tick (2 ^ 48))
 
--- ---- claim: 50, 52, 53 share outside 1..k, 54 length outside 1..65,535, 55 finished, 56 held and not lapsed, 57 all tickets issued
+-- ---- claim, acquiring a share's lease: 50, 52, 53 share outside 1..k, 54 length outside 1..65,535, 55 finished, 56 held and not lapsed, 57 all tickets issued
 
 -- a ticket stands at share j and has not lapsed
 unfoldable pub held : Book → ℕ → ℕ → Bool
@@ -115,7 +118,7 @@ claim-answer b tick j len = cond (eqb (claim-number b tick j len) 0) (claiming.T
 unfoldable pub claim-book : Book → ℕ → ℕ → ℕ → Book
 claim-book b tick j len = cond (eqb (claim-number b tick j len) 0) (entered b tick (suc (b .issued)) j (next b j) (suc (b .issued)) (tick + len)) b
 
--- ---- what take, commit and release ask first: 50, 52, 58 the ticket stands at no share, 59 it has lapsed
+-- ---- what take, commit and release check first, that the ticket is the token of a live lease: 50, 52, 58 the ticket stands at no share, 59 it has lapsed
 
 unfoldable pub ticket-number : Book → ℕ → ℕ → ℕ → ℕ
 ticket-number b tick t rest =
@@ -124,7 +127,7 @@ ticket-number b tick t rest =
     (unless (not (eqb (holder b t) 0)) 58
     (unless (not (lapsed b (holder b t) tick)) 59 rest)))
 
--- ---- take: then 9, the output lists of lengths l0, l1 and lw being short
+-- ---- take, reading the next unit of work: then 9, the output lists of lengths l0, l1 and lw being short
 
 -- the position that a take with the ticket t gives
 unfoldable pub due : Book → ℕ → ℕ
@@ -150,7 +153,7 @@ take-book b tick t l0 l1 lw = cond (eqb (take-number b tick t l0 l1 lw) 0) (tick
 unfoldable pub take-list : Book → ℕ → ℕ → ℕ → ℕ → ℕ → List ℕ → List ℕ → List ℕ
 take-list b tick t l0 l1 lw x a = cond (eqb (take-number b tick t l0 l1 lw) 0) (overwrite x a) a
 
--- ---- commit: then 60, not that share's next position
+-- ---- commit, recording a finished position under a live lease: then 60, not that share's next position
 
 unfoldable pub commit-number : Book → ℕ → ℕ → ℕ → ℕ
 commit-number b tick t p = ticket-number b tick t (unless (eqb p (due b t)) 60 0)
@@ -168,7 +171,7 @@ movedOn b tick j =
 unfoldable pub commit-book : Book → ℕ → ℕ → ℕ → Book
 commit-book b tick t p = cond (eqb (commit-number b tick t p) 0) (movedOn b tick (holder b t)) b
 
--- ---- release
+-- ---- release, giving the lease back
 
 unfoldable pub release-number : Book → ℕ → ℕ → ℕ
 release-number b tick t = ticket-number b tick t 0
@@ -179,7 +182,7 @@ release-answer b tick t = cond (eqb (release-number b tick t) 0) releasing.Relea
 unfoldable pub release-book : Book → ℕ → ℕ → Book
 release-book b tick t = cond (eqb (release-number b tick t) 0) (entered b tick (b .issued) (holder b t) (due b t) 0 0) b
 
--- ---- report: 50; it alters nothing
+-- ---- report, the progress: 50; it alters nothing
 
 unfoldable pub report-answer : Book → Reporting
 report-answer b = cond (sound b) (reporting.Progress (committed b) (complete b)) (reporting.Refused 50)

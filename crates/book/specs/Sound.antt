@@ -1,4 +1,4 @@
--- A sound book, each condition of refusal 50 by name (document 01, "Share book").
+-- A valid book, each condition of refusal 50 by name (document 01, "Share book").
 --
 --   in-range b            the size is 1..50 and the number of shares 1..32
 --   counters-in b         at most 65,535 tickets issued, and the latest tick is below 2^48

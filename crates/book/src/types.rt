@@ -1,18 +1,20 @@
 // The share book, and what its operations answer.
 
-// A book divides the positions of one size among 1 to 32 shares. Entry j - 1 of each list is share j's; unused entries are 0.
+// A book is a lease table: it divides the positions of one size among 1 to 32 shares (shards), each of which one session at a time may
+// hold. Entry j - 1 of each list is share j's; unused entries are 0.
 pub struct Book {
     pub size: u64,
     pub shares: u64,
-    // the latest tick of an accepted call
+    // the latest tick of an accepted call; a tick is logical time, given by the caller
     pub latest: u64,
     // how many tickets have been issued
     pub issued: u64,
     // each share's next position
     pub next: [u64; 32],
-    // the ticket that stands at each share, 0 where none does
+    // the ticket that stands at each share, 0 where none does: the fencing token of the share's lease. Tickets are numbered upward, and
+    // one that has been replaced has no power
     pub ticket: [u64; 32],
-    // the tick at which that ticket lapses, 0 without a ticket
+    // the tick at which that ticket lapses, which is the lease's end; 0 without a ticket
     pub expiry: [u64; 32],
 }
 
@@ -38,16 +40,19 @@ pub enum Change {
     },
 }
 
+// An open makes a new lease table, in which no share is held.
 pub enum Opening {
     Opened,
     Refused(u16),
 }
 
+// A claim acquires the lease of a share: its ticket is the lease's fencing token.
 pub enum Claiming {
     Ticket(u64),
     Refused(u16),
 }
 
+// A take reads the next unit of work of a share under a live lease.
 pub enum Taking {
     Given {
         share: u64,
@@ -57,22 +62,25 @@ pub enum Taking {
     Refused(u16),
 }
 
+// A commit records, under a live lease, that a position is finished.
 pub enum Committing {
     Committed,
     Refused(u16),
 }
 
+// A release gives a live lease back.
 pub enum Releasing {
     Released,
     Refused(u16),
 }
 
+// A report tells the progress: how many positions are finished, and whether all are.
 pub enum Reporting {
     Progress { committed: u64, complete: bool },
     Refused(u16),
 }
 
-// What the cores hand back: the answer and the book that the call leaves.
+// What the operations on a book by value hand back: the answer and the book that the call leaves.
 pub struct OpenDone {
     pub answer: Opening,
     pub book: Book,

@@ -1,4 +1,4 @@
--- The numbers of a claim from some condition on, as the code asks them.
+-- The numbers of a claim from some condition on, as the code tests them.
 --
 --   share-number b tick j        55 finished, 56 held and not lapsed, 57 all tickets issued
 --   place-number b tick j len    53 share outside 1..k, 54 length outside 1..65,535, then those

@@ -1,2 +1,2 @@
-pub mod Asking
+pub mod Ask
 pub mod Claims

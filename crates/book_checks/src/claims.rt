@@ -1,20 +1,20 @@
 // What a claim is refused for.
 use crate::standing::tick_in;
 use book::Heads;
-use book_validity::shares::entry;
-use book_validity::shares::past;
+use book_shares::entry;
+use book_shares::past;
+use book_shares::tests::among;
+use book_shares::tests::both;
+use book_shares::tests::not;
+use book_shares::tests::unless;
 use book_validity::sound;
-use book_validity::tests::among;
-use book_validity::tests::both;
-use book_validity::tests::not;
-use book_validity::tests::unless;
 ghost use mathlib.Core.Path.{_≡_};
 ghost use mathlib.Core.Bool.{true};
 ghost use lib.Dec.{eqb, leb};
 ghost use Rattle.lists.specs.Ranges.{OneTo};
 ghost use Rattle.book.specs.Sound.{both, sound};
 ghost use Rattle.book.specs.Calls.{not, claim-number};
-ghost use Rattle.book_validity.specs.Entries.{bookWith, Full};
+ghost use Rattle.book_entries.specs.Entries.{bookWith, Full};
 ghost use Rattle.book_checks.specs.Claims.{share-number, place-number};
 
 // A ticket t that lapses at e is one, and has not lapsed.
@@ -24,7 +24,7 @@ fn held(t: u64, e: u64, tick: u64) -> bool
     both(not(t == 0), not(e <= tick))
 }
 
-// 55, 56 or 57 for a share of a sound book.
+// 55, 56 or 57 for a share of a valid book.
 fn share_number<'a>(
     h: Heads,
     nexts: &'a [u64],
@@ -42,7 +42,7 @@ fn share_number<'a>(
     unless(not(finished), 55, unless(not(taken), 56, issuing))
 }
 
-// 53 to 57 for a sound book.
+// 53 to 57 for a valid book.
 fn place_number<'a>(
     h: Heads,
     nexts: &'a [u64],

@@ -1,12 +1,12 @@
 // What the report counts.
 use book::Heads;
-use book_validity::shares::count_of;
-use book_validity::shares::last_of;
+use book_shares::count_of;
+use book_shares::last_of;
 ghost use mathlib.Core.Path.{_≡_};
 ghost use mathlib.Core.Bool.{true};
 ghost use Rattle.book.specs.Shares.{committed, complete};
 ghost use Rattle.book.specs.Sound.{sound};
-ghost use Rattle.book_validity.specs.Entries.{bookWith, Full};
+ghost use Rattle.book_entries.specs.Entries.{bookWith, Full};
 
 // The number of committed positions: of each share, those from its first to the one before its next.
 pub fn committed<'a>(h: Heads, nexts: &'a [u64], tickets: &'a [u64], expiries: &'a [u64]) -> u64

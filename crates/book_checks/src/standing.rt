@@ -1,8 +1,8 @@
-// Where a ticket stands, and what take, commit and release ask first.
+// Where a ticket stands, and what take, commit and release check first.
 use book::Heads;
-use book_validity::shares::entry;
+use book_shares::entry;
+use book_shares::tests::both;
 use book_validity::sound;
-use book_validity::tests::both;
 ghost use mathlib.Core.Path.{_≡_};
 ghost use mathlib.Core.List.{List};
 ghost use Prim.Native.Nat.{ℕ, _≤_, _^_};
@@ -10,8 +10,8 @@ ghost use lib.Dec.{leb, ltb};
 ghost use lib.ListN.{length};
 ghost use Rattle.book.specs.Shares.{holder};
 ghost use Rattle.book.specs.Sound.{both};
-ghost use Rattle.book_validity.specs.Entries.{bookWith, Full};
-ghost use Rattle.book_checks.specs.Asking.{Asking};
+ghost use Rattle.book_entries.specs.Entries.{bookWith, Full};
+ghost use Rattle.book_checks.specs.Ask.{AskPromise};
 
 // The share where the ticket stands and has not lapsed, or 50, 52, 58 or 59.
 pub enum Asked {
@@ -54,7 +54,7 @@ pub fn ask<'a>(
     ticket: u64,
 ) -> Asked
     requires { ⌜ Full (now nexts) (now tickets) (now expiries) ⌝ }
-    ensures { λ r. ⌜ Asking (bookWith h (now (nexts .entry)) (now (tickets .entry)) (now (expiries .entry))) tick ticket r ⌝ }
+    ensures { λ r. ⌜ AskPromise (bookWith h (now (nexts .entry)) (now (tickets .entry)) (now (expiries .entry))) tick ticket r ⌝ }
 {
     if !sound(h, nexts, tickets, expiries) {
         return Asked::Refused(50);

@@ -2,8 +2,8 @@
 use book::Book;
 use book::Change;
 use book::Heads;
-use book_validity::shares::count_of;
-use book_validity::shares::last_of;
+use book_shares::count_of;
+use book_shares::last_of;
 ghost use mathlib.Core.Path.{_≡_};
 ghost use mathlib.Core.Bool.{cond};
 ghost use Prim.Native.Nat.{ℕ, _<_, _^_};

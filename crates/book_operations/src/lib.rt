@@ -1,7 +1,6 @@
 // The operations of the share book on a book by value: each returns its answer with the book that it leaves. What it answers and alters
 // is decided on the lent parts of the book.
 mod books;
-pub mod decisions;
 
 use book::Book;
 use book::ClaimDone;
@@ -11,11 +10,11 @@ use book::Opening;
 use book::ReleaseDone;
 use book::Reporting;
 use book::TakeDone;
+use book_shares::tests::among;
 use books::changed;
 use books::heads;
 use books::opened;
 use diagrams::Diagram;
-use book_validity::tests::among;
 ghost use mathlib.Core.Path.{_≡_};
 ghost use Rattle.book.specs.Taken.{TakePromise};
 ghost use Rattle.book.specs.Calls.{open-answer, open-book, claim-answer, claim-book, commit-answer, commit-book, release-answer, release-book, report-answer};
@@ -45,7 +44,7 @@ pub fn claim_core(b: Book, tick: u64, share: u64, length: u64) -> ClaimDone
     ensures { λ r. ⌜ (r .answer ≡ claim-answer b tick share length) × (r .book ≡ claim-book b tick share length) ⌝ }
 {
     let h = heads(b);
-    let choice = decisions::claim(h, &b.next, &b.ticket, &b.expiry, tick, share, length);
+    let choice = book_decisions::claim(h, &b.next, &b.ticket, &b.expiry, tick, share, length);
     let answer = choice.answer;
     let change = choice.change;
     ClaimDone {
@@ -58,7 +57,7 @@ pub fn release_core(b: Book, tick: u64, ticket: u64) -> ReleaseDone
     ensures { λ r. ⌜ (r .answer ≡ release-answer b tick ticket) × (r .book ≡ release-book b tick ticket) ⌝ }
 {
     let h = heads(b);
-    let choice = decisions::release(h, &b.next, &b.ticket, &b.expiry, tick, ticket);
+    let choice = book_decisions::release(h, &b.next, &b.ticket, &b.expiry, tick, ticket);
     let answer = choice.answer;
     let change = choice.change;
     ReleaseDone {
@@ -78,7 +77,7 @@ pub fn take_core(
     ensures { λ r. ⌜ TakePromise b tick ticket (now (s0 .entry)) (now (s1 .entry)) (now (word .entry)) (r .answer) (r .book) (now (s0 .exit)) (now (s1 .exit)) (now (word .exit)) ⌝ }
 {
     let h = heads(b);
-    let choice = decisions::take(h, &b.next, &b.ticket, &b.expiry, tick, ticket, s0, s1, word);
+    let choice = book_decisions::take(h, &b.next, &b.ticket, &b.expiry, tick, ticket, s0, s1, word);
     let answer = choice.answer;
     let change = choice.change;
     TakeDone {
@@ -91,7 +90,7 @@ pub fn commit_core(b: Book, tick: u64, ticket: u64, position: u64) -> CommitDone
     ensures { λ r. ⌜ (r .answer ≡ commit-answer b tick ticket position) × (r .book ≡ commit-book b tick ticket position) ⌝ }
 {
     let h = heads(b);
-    let choice = decisions::commit(h, &b.next, &b.ticket, &b.expiry, tick, ticket, position);
+    let choice = book_decisions::commit(h, &b.next, &b.ticket, &b.expiry, tick, ticket, position);
     let answer = choice.answer;
     let change = choice.change;
     CommitDone {
@@ -104,5 +103,5 @@ pub fn report_core(b: Book) -> Reporting
     ensures { λ r. ⌜ r ≡ report-answer b ⌝ }
 {
     let h = heads(b);
-    decisions::report(h, &b.next, &b.ticket, &b.expiry)
+    book_decisions::report(h, &b.next, &b.ticket, &b.expiry)
 }

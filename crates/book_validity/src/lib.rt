@@ -1,106 +1,20 @@
-// Whether a book is sound: the conditions of refusal 50. The functions are lent the book's lists, as slices, so that they may lie anywhere.
-pub mod shares;
-pub mod tests;
-
+// Whether a book is valid: condition 50 applies to it exactly if `sound` says no. The functions are lent the book's lists, as slices, so
+// that they may lie anywhere.
 use book::Heads;
+use book_entries::entry_sound;
+use book_shares::Ends;
+use book_shares::count_of;
+use book_shares::onward;
+use book_shares::tests::among;
+use book_shares::tests::both;
 use diagrams::Diagram;
-use shares::Ends;
-use shares::count_of;
-use shares::onward;
-use tests::among;
-use tests::both;
-use tests::either;
-use tests::implies;
-use tests::not;
 ghost use mathlib.Core.Path.{_≡_};
-ghost use Prim.Native.Nat.{ℕ, suc, _+_, _<_, _^_};
+ghost use Prim.Native.Nat.{_<_, _^_};
 ghost use lib.Dec.{leb, ltb};
-ghost use lib.ListN.{length};
 ghost use Rattle.lists.specs.Ranges.{OneTo};
 ghost use Rattle.listing.specs.Listing.{count};
-ghost use Rattle.book.specs.Shares.{last};
-ghost use Rattle.book.specs.Sound.{both, share-sound, entry-unused, entries-sound, sound};
-ghost use Rattle.book_validity.specs.Entries.{bookOf, bookWith, Full, placed, once-before, timely, entry-sound};
-
-// Of a share that holds the positions after `before` up to `end`: its next position p is one of them or just past them, and past them
-// it has no ticket.
-fn place_sound(before: u64, end: u64, p: u64, t: u64) -> bool
-    requires { ⌜ (before < 2 ^ 56) × (end < 2 ^ 56) ⌝ }
-    ensures { λ r. ⌜ r ≡ placed before end p t ⌝ }
-{
-    let within = both(before + 1 <= p, p <= end + 1);
-    both(within, implies(end < p, t == 0))
-}
-
-// The ticket at place i, if there is one, stands at no place before. Without an early end, so that several are compared at once.
-fn ticket_once(ticket: &[u64], i: usize) -> bool
-    requires { ⌜ (i < 32) × (length (now ticket) ≡ 32) ⌝ }
-    ensures { λ r. ⌜ r ≡ once-before (now (ticket .entry)) i ⌝ }
-{
-    let t = ticket[i];
-    let mut again = false;
-    let mut m: usize = 0;
-    while m < i {
-        again = either(again, ticket[m] == t);
-        m += 1;
-    }
-    either(t == 0, not(again))
-}
-
-// Without a ticket the expiry is 0; it lies at most 65,535 beyond the latest tick.
-fn expiry_in(t: u64, e: u64, latest: u64) -> bool
-    requires { ⌜ latest < 2 ^ 48 ⌝ }
-    ensures { λ r. ⌜ r ≡ timely t e latest ⌝ }
-{
-    both(either(e == 0, not(t == 0)), e <= latest + 65535)
-}
-
-// The share at place i, which holds the positions after `before` up to `end`.
-fn share_sound<'a>(
-    before: u64,
-    end: u64,
-    latest: u64,
-    issued: u64,
-    next: &'a [u64],
-    ticket: &'a [u64],
-    expiry: &'a [u64],
-    i: usize,
-) -> bool
-    requires { ⌜ (before < 2 ^ 56) × (end < 2 ^ 56) × (i < 32) × (latest < 2 ^ 48) × Full (now next) (now ticket) (now expiry) ⌝ }
-    ensures { λ r. ⌜ ((n k : ℕ) → before ≡ last n k i → end ≡ last n k (i + 1)
-        → r ≡ share-sound (bookOf n k latest issued (now (next .entry)) (now (ticket .entry)) (now (expiry .entry))) (suc i)) ⌝ }
-{
-    let t = ticket[i];
-    if place_sound(before, end, next[i], t) {
-        return both(
-            ticket_once(ticket, i),
-            both(t <= issued, expiry_in(t, expiry[i], latest)),
-        );
-    }
-    false
-}
-
-// Place i, where one of k shares or nothing stands.
-fn entry_sound<'a>(
-    before: u64,
-    end: u64,
-    k: u64,
-    latest: u64,
-    issued: u64,
-    next: &'a [u64],
-    ticket: &'a [u64],
-    expiry: &'a [u64],
-    i: usize,
-) -> bool
-    requires { ⌜ (before < 2 ^ 56) × (end < 2 ^ 56) × (i < 32) × (latest < 2 ^ 48) × Full (now next) (now ticket) (now expiry) ⌝ }
-    ensures { λ r. ⌜ ((n : ℕ) → before ≡ last n k i → end ≡ last n k (i + 1)
-        → r ≡ entry-sound (bookOf n k latest issued (now (next .entry)) (now (ticket .entry)) (now (expiry .entry))) (suc i)) ⌝ }
-{
-    if (i as u64) < k {
-        return share_sound(before, end, latest, issued, next, ticket, expiry, i);
-    }
-    both(next[i] == 0, both(ticket[i] == 0, expiry[i] == 0))
-}
+ghost use Rattle.book.specs.Sound.{both, entries-sound, sound};
+ghost use Rattle.book_entries.specs.Entries.{bookWith, Full};
 
 // Place after place, the end of each share found from the one before: a division for each would cost more than all the rest.
 fn entries_sound<'a>(

@@ -7,29 +7,44 @@ mod rows;
 
 use diagrams::Diagram;
 use libc::STDOUT_FILENO;
-use lines::put_byte;
-use lines::put_number;
-use lines::put_text;
+use listing_ranking::Total;
+use rows::plus;
+use rows::put_rows;
 use run_blocks::Listing;
 use run_blocks::list_marked;
-use listing_ranking::Total;
-use rows::Standing;
-use rows::put_rows;
 use run_steps::Run;
+use text_printing::put_byte;
+use text_printing::put_number;
+use text_printing::put_text;
 
 // Diagrams in a block. No line is longer than 1,024 bytes (15 digits, at most 51 items of three letters, two lists of 50 entries, five numbers
 // and the marks between), so that a block's lines fit the 65,536 bytes that are written at once.
 const ROWS: usize = 48;
 
-// The next diagrams of the run, and their lines. Where the run gives none the census stays as it is.
-fn block(c: Standing, n: usize, out: &mut [u8]) -> Standing {
+// Writes the first bytes of out, up to a place; false where standard output takes no more.
+fn flush(out: &[u8], at: usize) -> bool {
+    if out.len() < at {
+        return false;
+    }
+    io::write_all(STDOUT_FILENO, &out[0..at])
+}
+
+// The run after a block, how many diagrams the block listed and how many of them are kept.
+struct Block {
+    run: Run,
+    listed: u64,
+    kept: u64,
+}
+
+// Prints the next diagrams of the run, of which `listed` came before. Where the run gives none, or standard output takes no more, it lists
+// none.
+fn list_block(run: Run, listed: u64, n: usize, out: &mut [u8]) -> Block {
     let mut s0 = [0u16; Diagram::MAX_LISTED * ROWS];
     let mut s1 = [0u16; Diagram::MAX_LISTED * ROWS];
     let mut words = [0u16; (Diagram::MAX_LISTED + 1) * ROWS];
     let mut lengths = [0u16; ROWS];
     let mut marks = [0u8; ROWS];
-    let run = c.run;
-    let listed = list_marked(
+    let rows = list_marked(
         run,
         ROWS as u64,
         &mut s0,
@@ -38,26 +53,38 @@ fn block(c: Standing, n: usize, out: &mut [u8]) -> Standing {
         &mut lengths,
         &mut marks,
     );
-    let answer = listed.answer;
+    let answer = rows.answer;
     let Listing::Rows(k) = answer else {
-        return c;
+        return Block {
+            run,
+            listed: 0,
+            kept: 0,
+        };
     };
-    let run = listed.run;
-    let next = Standing {
-        run,
-        listed: c.listed,
-        kept: c.kept,
-        at: c.at,
-    };
-    put_rows(next, n, k as usize, &s0, &s1, &words, &lengths, &marks, out)
-}
-
-// Writes the page out; false where standard output takes no more.
-fn flush(out: &[u8], at: usize) -> bool {
-    if out.len() < at {
-        return false;
+    let page = put_rows(
+        out,
+        listed,
+        n,
+        k as usize,
+        &s0,
+        &s1,
+        &words,
+        &lengths,
+        &marks,
+    );
+    let run = rows.run;
+    if flush(out, page.at) {
+        return Block {
+            run,
+            listed: k,
+            kept: page.kept,
+        };
     }
-    io::write_all(STDOUT_FILENO, &out[0..at])
+    Block {
+        run,
+        listed: 0,
+        kept: 0,
+    }
 }
 
 fn put_header(out: &mut [u8], size: u64) -> usize {
@@ -66,36 +93,31 @@ fn put_header(out: &mut [u8], size: u64) -> usize {
     put_byte(out, at, b'\n')
 }
 
-fn put_totals(out: &mut [u8], at: usize, listed: u64, kept: u64) -> usize {
-    let mut next = put_number(out, at, listed);
-    next = put_text(out, next, b" listed, ");
-    next = put_number(out, next, kept);
-    put_text(out, next, b" kept\n")
+fn put_totals(out: &mut [u8], listed: u64, kept: u64) -> usize {
+    let mut at = put_number(out, 0, listed);
+    at = put_text(out, at, b" listed, ");
+    at = put_number(out, at, kept);
+    put_text(out, at, b" kept\n")
 }
 
 // All lines of a size of total diagrams, a block at a time. It stops where standard output closes.
 fn print_census(run: Run, size: u64, total: u64, out: &mut [u8]) {
     let at = put_header(out, size);
-    let mut c = Standing {
-        run,
-        listed: 0,
-        kept: 0,
-        at,
-    };
-    while c.listed < total {
-        let mut next = block(c, size as usize, out);
-        if next.listed <= c.listed {
+    flush(out, at);
+    let mut run = run;
+    let mut listed: u64 = 0;
+    let mut kept: u64 = 0;
+    while listed < total {
+        let block = list_block(run, listed, size as usize, out);
+        let next = plus(listed, block.listed);
+        if next <= listed {
             return;
         }
-        if next.listed < total {
-            if !flush(out, next.at) {
-                return;
-            }
-            next.at = 0;
-        }
-        c = next;
+        listed = next;
+        kept = plus(kept, block.kept);
+        run = block.run;
     }
-    let at = put_totals(out, c.at, c.listed, c.kept);
+    let at = put_totals(out, listed, kept);
     flush(out, at);
 }
 

@@ -1,18 +1,16 @@
 // The lines of a census: one for each diagram, with its position, word, lists, invariants and keep mark.
+use crate::ROWS;
 use invariants::Measured;
 use invariants::Numbers;
-use lines::put_byte;
-use lines::put_list;
-use lines::put_number;
-use lines::put_signed;
-use lines::put_text;
-use run_steps::Run;
-use words::Lettered;
+use text_printing::put_byte;
+use text_printing::put_list;
+use text_printing::put_number;
+use text_printing::put_signed;
+use text_printing::put_text;
+use text_printing::put_word;
+ghost use Prim.Native.Nat.{_≤_};
 
-// More than any size has: one more still fits 64 bits.
-const MANY: u64 = 1000000000000000000;
-
-// The place n bytes on, or the end.
+// The place n entries on, or the end.
 fn forward(at: usize, n: usize, end: usize) -> usize {
     if end < at {
         return end;
@@ -23,31 +21,26 @@ fn forward(at: usize, n: usize, end: usize) -> usize {
     at + n
 }
 
-fn put_word(out: &mut [u8], at: usize, word: &[u16]) -> usize {
-    if out.len() < at {
-        return at;
-    }
-    let lettered = words::letters(word, &mut out[at..]);
-    match lettered {
-        Lettered::Length(n) => forward(at, n, out.len()),
-        Lettered::Refused(_) => at,
-    }
-}
-
 // A number with a space before it.
-fn put_field(out: &mut [u8], at: usize, x: u64) -> usize {
+fn put_number_field(out: &mut [u8], at: usize, x: u64) -> usize {
     let next = put_byte(out, at, b' ');
     put_number(out, next, x)
 }
 
+// A list with a space before it.
+fn put_list_field(out: &mut [u8], at: usize, list: &[u16]) -> usize {
+    let next = put_byte(out, at, b' ');
+    put_list(out, next, list)
+}
+
 // The five invariants.
 fn put_numbers(out: &mut [u8], at: usize, numbers: Numbers) -> usize {
-    let mut next = put_field(out, at, numbers.e2 as u64);
-    next = put_field(out, next, numbers.e3 as u64);
-    next = put_field(out, next, numbers.c as u64);
+    let mut next = put_number_field(out, at, numbers.e2 as u64);
+    next = put_number_field(out, next, numbers.e3 as u64);
+    next = put_number_field(out, next, numbers.c as u64);
     next = put_byte(out, next, b' ');
     next = put_signed(out, next, numbers.t);
-    put_field(out, next, numbers.level as u64)
+    put_number_field(out, next, numbers.level as u64)
 }
 
 // The same of a diagram.
@@ -59,51 +52,36 @@ fn put_invariants(out: &mut [u8], at: usize, s0: &[u16], s1: &[u16]) -> usize {
     }
 }
 
-// One line, but for the keep mark and the newline.
-fn put_row(
+// A diagram: its lists and its invariants.
+fn put_diagram(out: &mut [u8], at: usize, s0: &[u16], s1: &[u16]) -> usize {
+    let mut next = put_list_field(out, at, s0);
+    next = put_list_field(out, next, s1);
+    put_invariants(out, next, s0, s1)
+}
+
+// The end of a line: the keep mark and the newline.
+fn put_mark(out: &mut [u8], at: usize, mark: u8) -> usize {
+    if mark == 1 {
+        return put_text(out, at, b" K\n");
+    }
+    put_text(out, at, b" -\n")
+}
+
+// The line of a diagram.
+fn put_line(
     out: &mut [u8],
     at: usize,
     position: u64,
     word: &[u16],
     s0: &[u16],
     s1: &[u16],
+    mark: u8,
 ) -> usize {
     let mut next = put_number(out, at, position);
     next = put_byte(out, next, b' ');
     next = put_word(out, next, word);
-    next = put_byte(out, next, b' ');
-    next = put_list(out, next, s0);
-    next = put_byte(out, next, b' ');
-    next = put_list(out, next, s1);
-    put_invariants(out, next, s0, s1)
-}
-
-// Where a census stands: the run, how many diagrams have been listed and how many of them are kept, and how full the page is.
-pub struct Standing {
-    pub run: Run,
-    pub listed: u64,
-    pub kept: u64,
-    pub at: usize,
-}
-
-// The line of the next diagram.
-fn line(c: Standing, kept: bool, word: &[u16], s0: &[u16], s1: &[u16], out: &mut [u8]) -> Standing {
-    if MANY < c.listed {
-        return c;
-    }
-    if MANY < c.kept {
-        return c;
-    }
-    let mut next = c;
-    next.listed = c.listed + 1;
-    let at = put_row(out, c.at, next.listed, word, s0, s1);
-    if kept {
-        next.kept = c.kept + 1;
-        next.at = put_text(out, at, b" K\n");
-        return next;
-    }
-    next.at = put_text(out, at, b" -\n");
-    next
+    next = put_diagram(out, next, s0, s1);
+    put_mark(out, next, mark)
 }
 
 // So many entries of a list from a place on; none where the list has not so many there.
@@ -117,42 +95,63 @@ fn part(list: &[u16], from: usize, count: usize) -> &[u16] {
     &list[from..from + count]
 }
 
-// The lines of the diagrams of a block.
+// A sum, or the largest number where it does not fit.
+pub fn plus(a: u64, b: u64) -> u64 {
+    if u64::MAX - a < b {
+        return u64::MAX;
+    }
+    a + b
+}
+
+// 1 for the mark of a kept diagram, 0 for another.
+fn kept_of(mark: u8) -> u64
+    ensures { λ r. ⌜ r ≤ 1 ⌝ }
+{
+    if mark == 1 { 1 } else { 0 }
+}
+
+// How far the lines of a block reach, and how many of its diagrams are kept.
+pub struct Page {
+    pub at: usize,
+    pub kept: u64,
+}
+
+// The lines of a block of diagrams, written from the beginning of out; `listed` diagrams came before it.
 pub fn put_rows(
-    c: Standing,
+    out: &mut [u8],
+    listed: u64,
     n: usize,
     rows: usize,
     s0: &[u16],
     s1: &[u16],
     words: &[u16],
-    lengths: &[u16],
-    marks: &[u8],
-    out: &mut [u8],
-) -> Standing {
-    if lengths.len() < rows {
-        return c;
+    lengths: &[u16; ROWS],
+    marks: &[u8; ROWS],
+) -> Page {
+    let mut at: usize = 0;
+    let mut kept: u64 = 0;
+    if ROWS < rows {
+        return Page { at, kept };
     }
-    if marks.len() < rows {
-        return c;
-    }
-    let mut now = c;
     let mut first: usize = 0;
     let mut place: usize = 0;
     let mut i: usize = 0;
     while i < rows {
         let m = lists::to_index(lengths[i]);
-        let kept = marks[i] == 1;
+        let mark = marks[i];
         i += 1;
-        now = line(
-            now,
-            kept,
+        at = put_line(
+            out,
+            at,
+            plus(listed, i as u64),
             part(words, place, m),
             part(s0, first, n),
             part(s1, first, n),
-            out,
+            mark,
         );
+        kept += kept_of(mark);
         first = forward(first, n, s0.len());
         place = forward(place, m, words.len());
     }
-    now
+    Page { at, kept }
 }

@@ -1,144 +1,63 @@
-// Which command a line is. Each function tries the names of its group, and hands what it does not know on to the next.
-use console_diagrams::given;
-use console_diagrams::listing;
-use console_diagrams::spelling;
-use console_lines::answers::error;
-use console_state::blocks;
-use console_state::books;
-use console_state::fields;
-use console_state::runs;
-use console_state::state::Done;
-use console_state::state::State;
-use lines::Words;
-use lines::is;
-use lines::split;
-use lines::word;
+// The answer to a line.
+use console_answers::error;
+use console_book::on_book;
+use console_commands::arguments::ALL_ENTRIES;
+use console_commands::commands::NONE;
+use console_commands::commands::STEP;
+use console_commands::commands::TAKE;
+use console_commands::commands::read_command;
+use console_diagrams::on_diagrams;
+use console_runs::on_run;
+use text_printing::put_text;
 
-fn on_sizes(name: &[u8], line: &[u8], words: Words, out: &mut [u8], at: usize) -> usize {
-    if is(name, b"count") {
-        return listing::count(line, words, out, at);
+// The commands by their numbers. A command's lists are its parts of entries; its numbers, the lengths of its lists and its rooms are in values.
+fn on_command(
+    number: usize,
+    entries: &[u16],
+    values: &[u64; 16],
+    run: &mut [u16; 54],
+    book: &mut [u64; 100],
+    out: &mut [u8],
+    at: usize,
+) -> usize {
+    if number < STEP {
+        return on_diagrams(number, entries, values, out, at);
     }
-    if is(name, b"at") {
-        return listing::diagram_at(line, words, out, at);
+    if number < TAKE {
+        return on_run(number, entries, values, run, out, at);
     }
-    if is(name, b"position") {
-        return listing::position(line, words, out, at);
-    }
-    if is(name, b"walk") {
-        return listing::walk(line, words, out, at);
+    if number < NONE {
+        return on_book(number, values, book, out, at);
     }
     error(out, at)
 }
 
-fn on_words(name: &[u8], line: &[u8], words: Words, out: &mut [u8], at: usize) -> usize {
-    if is(name, b"read") {
-        return spelling::read(line, words, out, at);
-    }
-    if is(name, b"lesser") {
-        return spelling::lesser(line, words, out, at);
-    }
-    if is(name, b"letters") {
-        return spelling::letters(line, words, out, at);
-    }
-    on_sizes(name, line, words, out, at)
-}
-
-fn on_diagrams(name: &[u8], line: &[u8], words: Words, out: &mut [u8], at: usize) -> usize {
-    if is(name, b"check") {
-        return given::check(line, words, out, at);
-    }
-    if is(name, b"reached") {
-        return given::reached(line, words, out, at);
-    }
-    if is(name, b"relabel") {
-        return given::relabel(line, words, out, at);
-    }
-    if is(name, b"compare") {
-        return given::compare(line, words, out, at);
-    }
-    if is(name, b"invariants") {
-        return given::invariants(line, words, out, at);
-    }
-    if is(name, b"symmetries") {
-        return given::symmetries(line, words, out, at);
-    }
-    if is(name, b"kept") {
-        return given::kept(line, words, out, at);
-    }
-    on_words(name, line, words, out, at)
-}
-
-// The first of the groups that alter something.
-fn on_fields(
-    name: &[u8],
+fn on_line(
     line: &[u8],
-    words: Words,
-    state: State,
+    run: &mut [u16; 54],
+    book: &mut [u64; 100],
     out: &mut [u8],
     at: usize,
-) -> Done {
-    let book = state.book;
-    if is(name, b"set") {
-        return fields::set(line, words, state, out, at);
-    }
-    if is(name, b"book") {
-        return Done {
-            state,
-            at: fields::show(words, book, out, at),
-        };
-    }
-    if is(name, b"report") {
-        return Done {
-            state,
-            at: books::report(words, book, out, at),
-        };
-    }
-    Done {
-        state,
-        at: on_diagrams(name, line, words, out, at),
-    }
+) -> usize {
+    let mut entries = [0u16; ALL_ENTRIES];
+    let mut values = [u64::MAX; 16];
+    let number = read_command(line, &mut entries, &mut values);
+    on_command(number, &entries, &values, run, book, out, at)
 }
 
-fn on_book(
-    name: &[u8],
+// A line that begins with `#` is its own answer.
+pub fn command(
     line: &[u8],
-    words: Words,
-    state: State,
+    run: &mut [u16; 54],
+    book: &mut [u64; 100],
     out: &mut [u8],
     at: usize,
-) -> Done {
-    if is(name, b"open") {
-        return books::open(line, words, state, out, at);
+) -> usize {
+    if line.len() == 0 {
+        return error(out, at);
     }
-    if is(name, b"claim") {
-        return books::claim(line, words, state, out, at);
+    if line[0] == b'#' {
+        return put_text(out, at, line);
     }
-    if is(name, b"take") {
-        return books::take(line, words, state, out, at);
-    }
-    if is(name, b"commit") {
-        return books::commit(line, words, state, out, at);
-    }
-    if is(name, b"release") {
-        return books::release(line, words, state, out, at);
-    }
-    on_fields(name, line, words, state, out, at)
-}
-
-pub fn command(line: &[u8], state: State, out: &mut [u8], at: usize) -> Done {
-    let words = split(line);
-    let name = word(line, words, 0);
-    if is(name, b"begin") {
-        return runs::begin(line, words, state, out, at);
-    }
-    if is(name, b"step") {
-        return runs::step(line, words, state, out, at);
-    }
-    if is(name, b"list") {
-        return blocks::list(line, words, state, out, at);
-    }
-    if is(name, b"marked") {
-        return blocks::marked(line, words, state, out, at);
-    }
-    on_book(name, line, words, state, out, at)
+    on_line(line, run, book, out, at)
 }

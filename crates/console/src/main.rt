@@ -1,7 +1,8 @@
 // Reads commands from standard input, one a line, and writes one line for each to standard output, so that every operation can be tried
 // from a shell. Words are parted by one space. A list is decimal numbers up to 65,535, parted by commas, at most 2,048 of them, and `-` is
 // the empty list; other numbers fit 64 bits. ROOMS, in brackets, are lengths of the output lists, which are long enough where they are left out.
-// A line of any other form, or of more than 65,536 bytes, prints `error` and alters nothing. Every refusal prints `refused N`.
+// A line of any other form, or of more than 65,536 bytes, prints `error` and alters nothing. Every refusal prints `refused N`. A line that begins
+// with `#` is printed as it stands.
 //
 //   check S0 S1 ROOT                               ok
 //   reached MARKS                                  yes or no: every mark is 1; a number above 255 is no mark
@@ -23,6 +24,8 @@
 //   list ROWS [R0 R1 RW RL]                        how many diagrams of the run, at most ROWS; their black lists, white lists, words and the
 //                                                  words' lengths, each one after another; lists of 2,048 places where the rooms are left out
 //   marked ROWS [R0 R1 RW RL RM]                   the same, and the keep marks
+//   run                                            SIZE STAGE LENGTH ITEMS, a list of 51; all zeros before any accepted begin
+//   set run SIZE STAGE LENGTH ITEMS                ok; writes the run, with zeros after at most 51 items; each field is 16 bits wide
 //   open N K                                       ok
 //   claim TICK SHARE LENGTH                        ticket T
 //   take TICK TICKET [R0 R1 RW]                    share J position P S0 S1 WORD
@@ -35,13 +38,10 @@
 mod commands;
 
 use commands::command;
-use console_lines::answers::error;
-use console_state::state;
-use console_state::state::Done;
-use console_state::state::State;
+use console_answers::error;
 use libc::STDIN_FILENO;
 use libc::STDOUT_FILENO;
-use lines::put_byte;
+use text_printing::put_byte;
 ghost use Prim.Native.Nat.{_≤_};
 ghost use lib.ListN.{length};
 
@@ -49,20 +49,22 @@ ghost use lib.ListN.{length};
 const LONGEST: usize = 65536;
 // Twice that, so that a line that is still incomplete leaves room to read on.
 const INPUT: usize = 131072;
-// Twice what the longest answer takes, and more.
-const OUTPUT: usize = 65536;
+// Answers are written out once they are so many bytes.
+const ENOUGH: usize = 32768;
+// More than these and the longest answer, which is that of a line that is its own.
+const OUTPUT: usize = 131072;
 
-// After the lines that were complete: where the next one begins, and what they left.
+// After the lines that were complete: where the next one begins, and whether it was too long, and is passed over up to its newline.
 struct Passed {
     start: usize,
-    state: State,
+    skips: bool,
 }
 
-// After a read: whether there may be more, how many bytes of an incomplete line are kept, and what the lines before it left.
+// After a read: whether there may be more, how many bytes of an incomplete line are kept, and whether it is passed over.
 struct Turned {
     more: bool,
     have: usize,
-    state: State,
+    skips: bool,
 }
 
 // Writes the answers so far where they are many, and returns the place for the next one.
@@ -77,32 +79,39 @@ fn written(out: &[u8], at: usize, few: usize) -> usize {
     0
 }
 
-// Answers one line. The end of a line that was too long, which has its answer, is passed over.
-fn answer(line: &[u8], state: State, out: &mut [u8], at: usize) -> Done {
-    let mut next = state;
-    if state.skips {
-        next.skips = false;
-        return Done { state: next, at };
+// Answers one line, unless it is the end of one that was too long, which has its answer.
+fn answer(
+    line: &[u8],
+    skips: bool,
+    run: &mut [u16; 54],
+    book: &mut [u64; 100],
+    out: &mut [u8],
+    at: usize,
+) -> usize {
+    if skips {
+        return at;
     }
     if LONGEST < line.len() {
         let end = error(out, at);
-        return Done {
-            state,
-            at: put_byte(out, end, b'\n'),
-        };
+        return put_byte(out, end, b'\n');
     }
-    let mut done = command(line, state, out, at);
-    let end = done.at;
-    done.at = put_byte(out, end, b'\n');
-    done
+    let end = command(line, run, book, out, at);
+    put_byte(out, end, b'\n')
 }
 
 // Answers the lines whose newlines are there. None is among the bytes before `searched`.
-fn answer_lines(input: &[u8], searched: usize, state: State, out: &mut [u8]) -> Passed
+fn answer_lines(
+    input: &[u8],
+    searched: usize,
+    skips: bool,
+    run: &mut [u16; 54],
+    book: &mut [u64; 100],
+    out: &mut [u8],
+) -> Passed
     requires { ⌜ searched ≤ length (now input) ⌝ }
     ensures { λ r. ⌜ r .start ≤ length (now (input .entry)) ⌝ }
 {
-    let mut current = state;
+    let mut passes = skips;
     let mut start: usize = 0;
     let mut from = searched;
     let mut at: usize = 0;
@@ -112,12 +121,12 @@ fn answer_lines(input: &[u8], searched: usize, state: State, out: &mut [u8]) -> 
             written(out, at, 0);
             return Passed {
                 start,
-                state: current,
+                skips: passes,
             };
         }
-        let done = answer(&input[start..end], current, out, at);
-        current = done.state;
-        at = written(out, done.at, OUTPUT / 2);
+        let next = answer(&input[start..end], passes, run, book, out, at);
+        at = written(out, next, ENOUGH);
+        passes = false;
         start = end + 1;
         from = start;
     }
@@ -148,8 +157,43 @@ fn keep(input: &mut [u8], from: usize, have: usize) -> usize
     i
 }
 
-// Reads once and answers the lines that are complete then. A line that is too long already is answered, and passed over from here on.
-fn turn(input: &mut [u8], have: usize, state: State, out: &mut [u8]) -> Turned
+// What is kept of the bytes after the lines that were complete. A line that is too long already is answered, and passed over from here on.
+fn kept(rest: usize, skips: bool, out: &mut [u8]) -> Turned
+    ensures { λ r. ⌜ r .have ≤ rest ⌝ }
+{
+    if skips {
+        return Turned {
+            more: true,
+            have: 0,
+            skips,
+        };
+    }
+    if rest <= LONGEST {
+        return Turned {
+            more: true,
+            have: rest,
+            skips,
+        };
+    }
+    let end = error(out, 0);
+    let at = put_byte(out, end, b'\n');
+    written(out, at, 0);
+    Turned {
+        more: true,
+        have: 0,
+        skips: true,
+    }
+}
+
+// Reads once and answers the lines that are complete then.
+fn turn(
+    input: &mut [u8],
+    have: usize,
+    skips: bool,
+    run: &mut [u16; 54],
+    book: &mut [u64; 100],
+    out: &mut [u8],
+) -> Turned
     requires { ⌜ have ≤ length (now input) ⌝ }
     ensures { λ r. ⌜ r .have ≤ length (now (input .entry)) ⌝ }
 {
@@ -158,65 +202,55 @@ fn turn(input: &mut [u8], have: usize, state: State, out: &mut [u8]) -> Turned
         return Turned {
             more: false,
             have,
-            state,
+            skips,
         };
     }
-    let passed = answer_lines(&input[0..now], have, state, out);
-    let mut next = passed.state;
+    let passed = answer_lines(&input[0..now], have, skips, run, book, out);
     let rest = keep(input, passed.start, now);
-    if next.skips {
-        return Turned {
-            more: true,
-            have: 0,
-            state: next,
-        };
-    }
-    if rest <= LONGEST {
-        return Turned {
-            more: true,
-            have: rest,
-            state: next,
-        };
-    }
-    let end = error(out, 0);
-    let at = put_byte(out, end, b'\n');
-    written(out, at, 0);
-    next.skips = true;
-    Turned {
-        more: true,
-        have: 0,
-        state: next,
-    }
+    kept(rest, passed.skips, out)
 }
 
 // Answers the bytes that are left at the end of the input, a line without a newline, if there are any.
-fn answer_last(input: &[u8], have: usize, state: State, out: &mut [u8])
+fn answer_last(
+    input: &[u8],
+    have: usize,
+    skips: bool,
+    run: &mut [u16; 54],
+    book: &mut [u64; 100],
+    out: &mut [u8],
+)
     requires { ⌜ have ≤ length (now input) ⌝ }
 {
     if 0 < have {
-        let done = answer(&input[0..have], state, out, 0);
-        written(out, done.at, 0);
+        let at = answer(&input[0..have], skips, run, book, out, 0);
+        written(out, at, 0);
     }
 }
 
 // Reads and answers to the end of the input. A proved loop has to end, and nothing says that the input does: so the turns are counted
 // down, from a number that no session uses up.
-fn session(input: &mut [u8], out: &mut [u8]) {
-    let mut state = state::start();
+fn session(input: &mut [u8], run: &mut [u16; 54], book: &mut [u64; 100], out: &mut [u8]) {
+    let mut skips = false;
     let mut have: usize = 0;
     let mut turns = u64::MAX;
     while 0 < turns {
-        let turned = turn(input, have, state, out);
+        let turned = turn(input, have, skips, run, book, out);
         if !turned.more {
-            answer_last(input, have, state, out);
+            answer_last(input, have, skips, run, book, out);
             return;
         }
-        state = turned.state;
+        skips = turned.skips;
         have = turned.have;
         turns -= 1;
     }
 }
 
+// The run is of no size at first, so that a step refuses it, and the book is all zeros.
 fn main() {
-    session(&mut [0u8; INPUT], &mut [0u8; OUTPUT]);
+    session(
+        &mut [0u8; INPUT],
+        &mut [0u16; 54],
+        &mut [0u64; 100],
+        &mut [0u8; OUTPUT],
+    );
 }

@@ -9,8 +9,7 @@ use lib.ListN.{length, getD, List·getD-eq-default}
 use Rattle.lists.specs.Lists.{at}
 use Rattle.lists.proofs.Tests.{same?, lt?}
 use Rattle.diagrams.specs.Diagram.{Maps, Diagram, Rooted}
-use Rattle.diagrams.specs.Check.{Size, Lengths, Root, Entries, Thrice, Twice, Connected, Accepts, Refuses, no-size, no-lengths, no-root, no-blacks, no-whites, no-thrice, no-twice, no-path, CheckPromise}
-use Rattle.diagrams.specs.Search.{Mapped}
+use Rattle.diagrams.specs.Check.{Size, Lengths, Root, Entries, Thrice, Twice, Connected, Accepts, Refuses, no-size, no-lengths, no-root, no-blacks, no-whites, no-thrice, no-twice, no-path, CheckPromise, Mapped}
 use Rattle.diagrams.specs.declared.Verdict.{Verdict}
 use Rattle.diagrams.specs.declared.Verdict.the-variants.{Accepted, Refused}
 

@@ -1,7 +1,5 @@
-pub mod Answers
 pub mod Diagrams
 pub mod Isomorphisms
-pub mod Searching
 pub mod Checks
 pub mod Holding
 pub mod Examples

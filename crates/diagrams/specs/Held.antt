@@ -1,8 +1,8 @@
 -- A rooted diagram held by value (document 01, "Diagrams"): its lists stand in the first places of two arrays.
 --
---   Held d s0 s1 root        d holds the lists s0 and s1 and the root; the places after the lists are 0
---   HeldAfter s0 s1 root d v      d after the verdict v: the lent diagram where v accepts it, otherwise the single edge
---   CheckedDiagramPromise s0 s1 root m      the promise of Diagram::checked: check's verdict, and the diagram that goes with it
+--   Held d s0 s1 root                    d holds the lists s0 and s1 and the root; the places after the lists are 0
+--   HeldAfter s0 s1 root d v             d after the verdict v: the lent diagram where v accepts it, otherwise the single edge
+--   CheckedDiagramPromise s0 s1 root m   the promise of Diagram::checked: check's verdict, and the diagram that goes with it
 use mathlib.Core.Path.{_≡_}
 use mathlib.Core.List.{List, [], _∷_, _++_}
 use Prim.Native.Nat.{ℕ, _-_}

@@ -1,10 +1,11 @@
 -- Isomorphism of diagrams (document 01, "Diagrams"), with roots and without. Only a map that carries s0 to s0 and s1 to s1 counts,
 -- so orientation counts: a diagram and its mirror image, whose black map runs the other way round, need not be isomorphic.
+-- Rooted diagrams are isomorphic exactly if their subgroups of PSL2(Z) are equal; without roots, if the subgroups are conjugate.
 --
 --   Isomorphism n f g f′ g′ φ       φ is one-to-one from the edges 1..n onto 1..n and carries f to f′ and g to g′
---   IsomorphicMaps n f g n′ f′ g′       equal sizes, and some isomorphism: isomorphic without roots
---   RootedIsomorphicMaps ..               some isomorphism that carries root to root besides
---   IsomorphicMaps, RootedIsomorphic                the same two of diagrams given as lists
+--   IsomorphicMaps n f g n′ f′ g′   equal sizes, and some isomorphism: isomorphic without roots
+--   RootedIsomorphicMaps ..         some isomorphism that carries root to root besides
+--   Isomorphic, RootedIsomorphic    the same two of diagrams given as lists
 use mathlib.Core.Path.{_≡_}
 use mathlib.Core.List.{List}
 use Prim.Native.Nat.{ℕ}

@@ -2,5 +2,4 @@ pub mod Answers
 pub mod Diagram
 pub mod Isomorphism
 pub mod Check
-pub mod Search
 pub mod Held

@@ -1,4 +1,1 @@
-pub mod FixedEdges
-pub mod Walks
-pub mod Counts
 pub mod Differences

@@ -1,6 +1,6 @@
 -- What invariants promises (document 01, "Invariants"), by the cases of its answer; a refusal's number is 01's, 1 to 8.
 --
---   Invariants s0 s1 r      the numbers r are the invariants of the diagram given as the lists s0 and s1
+--   Invariants s0 s1 r               the numbers r are the invariants of the diagram given as the lists s0 and s1
 --   InvariantsPromise s0 s1 root a   the promise of `invariants`
 use mathlib.Core.Path.{_≡_}
 use mathlib.Core.List.{List}

@@ -1,5 +1,5 @@
--- Laws of tally and top: how many of 1..n pass a test, and the largest of n numbers.
--- Two tallies are compared by a one-to-one map from what passes the one test to what passes the other.
+-- Laws of `card` and `maximum`: how many of 1..n pass a test, and the largest of n numbers.
+-- Two cardinals are compared by a one-to-one map from what passes the one test to what passes the other.
 use mathlib.Core.Path.{_≡_, refl, sym, ap, _∙_}
 use mathlib.Core.Logic.{_≢_, _⊎_, inl, inr}
 use mathlib.Core.Bool.{Bool, true, false, true≢false, cond}
@@ -12,7 +12,7 @@ use Rattle.lists.specs.Ranges.{OneTo, card, maximum}
 use Rattle.lists.proofs.Tests.{same?}
 use Rattle.lists.proofs.Lists.{pigeons}
 
--- ---- tally
+-- ---- card
 
 pub card-all : (n : ℕ) → card n (λ x. true) ≡ n
 card-all zero = refl
@@ -83,7 +83,7 @@ card-le n t m u h into one-one =
         let q = into (r .0) (r .1) (r .2) in
         rw (r .3) (passing-has u (λ x. x) m (h (r .0)) (q .0) (q .1))
 
--- ---- top
+-- ---- maximum
 
 pub top-over : (n : ℕ) (t : ℕ → ℕ) (x : ℕ) → OneTo n x → t x ≤ maximum n t
 top-over zero t x e = absurd (omega arith)

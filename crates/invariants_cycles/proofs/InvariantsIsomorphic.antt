@@ -1,4 +1,4 @@
--- IsomorphicMaps diagrams have the same invariants: each number is at most the other diagram's, and the isomorphism can be turned round.
+-- Isomorphic diagrams have the same invariants: each number is at most the other diagram's, and the isomorphism has an inverse.
 use mathlib.Core.Path.{_≡_, ap, _∙_}
 use Prim.Native.Nat.{ℕ, _≤_}
 use native.Mathlib.Omega.{arith}
@@ -34,9 +34,9 @@ module _ {n : ℕ} {f g f′ g′ φ : ℕ → ℕ} (m : Maps n f g) (i : Isomor
       around-carried : Carried n (cuspMap f g) (cuspMap f′ g′) φ
       around-carried = record { into = i .into; one-one = i .one-one; carries = λ x e. i .blacks (g x) (m .white-in x e) ∙ ap f′ (i .whites x e) }
 
-isomorphism-alike : {n : ℕ} {f g f′ g′ φ : ℕ → ℕ} → Maps n f g → Isomorphism n f g f′ g′ φ → SameInvariants n f g n f′ g′
+isomorphic-by : {n : ℕ} {f g f′ g′ φ : ℕ → ℕ} → Maps n f g → Isomorphism n f g f′ g′ φ → SameInvariants n f g n f′ g′
 unfolding t
-isomorphism-alike {n} {f} {g} {f′} {g′} m i =
+isomorphic-by {n} {f} {g} {f′} {g′} m i =
     let there = at-most m i in
     let back = at-most (maps-carried m i) (isomorphism-sym i m) in
     let e2-same : e2 n f g ≡ e2 n f′ g′ = omega arith in
@@ -44,8 +44,8 @@ isomorphism-alike {n} {f} {g} {f′} {g′} m i =
     let c-same : c n f g ≡ c n f′ g′ = omega arith in
     record { e2-same = e2-same; e3-same = e3-same; c-same = c-same; t-same = rw (e2-same, e3-same, c-same); level-same = omega arith }
 
-pub invariants-alike : {n n′ : ℕ} {f g f′ g′ : ℕ → ℕ} → Maps n f g → IsomorphicMaps n f g n′ f′ g′ → SameInvariants n f g n′ f′ g′
-invariants-alike m i = rw (← i .sizes) (isomorphism-alike m (i .is))
+pub invariants-isomorphic : {n n′ : ℕ} {f g f′ g′ : ℕ → ℕ} → Maps n f g → IsomorphicMaps n f g n′ f′ g′ → SameInvariants n f g n′ f′ g′
+invariants-isomorphic m i = rw (← i .sizes) (isomorphic-by m (i .is))
 
-pub invariants-root-alike : {n n′ : ℕ} {f g f′ g′ : ℕ → ℕ} {r r′ : ℕ} → Maps n f g → RootedIsomorphicMaps n f g r n′ f′ g′ r′ → SameInvariants n f g n′ f′ g′
-invariants-root-alike m i = invariants-alike m (root-isomorphic-isomorphic i)
+pub invariants-root-isomorphic : {n n′ : ℕ} {f g f′ g′ : ℕ → ℕ} {r r′ : ℕ} → Maps n f g → RootedIsomorphicMaps n f g r n′ f′ g′ r′ → SameInvariants n f g n′ f′ g′
+invariants-root-isomorphic m i = invariants-isomorphic m (root-isomorphic-isomorphic i)

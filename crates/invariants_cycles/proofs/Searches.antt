@@ -1,4 +1,4 @@
--- Seek finds the first number that passes a test, or none of those it tries passes.
+-- `firstPassing` finds the first number that passes a test, or none of those it tries passes.
 use mathlib.Core.Path.{_≡_, refl}
 use mathlib.Core.Logic.{_≢_, _⊎_, inl, inr}
 use mathlib.Core.Bool.{Bool, true, false, cond}

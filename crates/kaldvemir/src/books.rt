@@ -1,29 +1,32 @@
 // The share book. It lies with the caller as 100 numbers: an operation looks at them where they are, and writes those that it alters.
-use crate::answers::claim_answer;
-use crate::answers::commit_answer;
-use crate::answers::release_answer;
-use crate::answers::report_answer;
-use crate::answers::take_answer;
 use book::Book;
 use book::Opening;
-use book_operations::decisions::claim;
-use book_operations::decisions::commit;
-use book_operations::decisions::release;
-use book_operations::decisions::report;
-use book_operations::decisions::take;
+use book_decisions::claim;
+use book_decisions::commit;
+use book_decisions::release;
+use book_decisions::report;
+use book_decisions::take;
 use book_operations::open_core;
+use kaldvemir_answers::claim_answer;
+use kaldvemir_answers::commit_answer;
+use kaldvemir_answers::release_answer;
+use kaldvemir_answers::report_answer;
+use kaldvemir_answers::take_answer;
 use kaldvemir_layout::books::change;
+use kaldvemir_layout::books::expiries;
 use kaldvemir_layout::books::heads;
+use kaldvemir_layout::books::nexts;
 use kaldvemir_layout::books::put_back;
+use kaldvemir_layout::books::tickets;
 ghost use mathlib.Core.Path.{_≡_};
 ghost use Rattle.book.specs.Calls.{open-answer, open-book, claim-answer, claim-book, commit-answer, commit-book, release-answer, release-book, report-answer};
 ghost use Rattle.book.specs.Taken.{TakePromise};
 ghost use Rattle.book.specs.declared.types.Book.{Book};
 ghost use Rattle.book.specs.declared.types.Taking.{Taking};
-ghost use Rattle.kaldvemir.specs.Answers as answers;
+ghost use Rattle.kaldvemir_answers.specs.Answers as answers;
 ghost use Rattle.kaldvemir_layout.specs.Layout.{book-of, book-numbers};
 
-// A book of zeros, for open to decide on: it asks nothing of the book that it is to alter.
+// A book of zeros, for open to decide on: it tests nothing of the book that it is to alter.
 fn blank() -> Book {
     let none = [0u64; 32];
     Book {
@@ -72,9 +75,9 @@ pub extern "C" fn kaldvemir_claim(
     let numbers: &[u64] = book;
     let choice = claim(
         heads(numbers),
-        &numbers[4..36],
-        &numbers[36..68],
-        &numbers[68..100],
+        nexts(numbers),
+        tickets(numbers),
+        expiries(numbers),
         tick,
         share,
         length,
@@ -108,9 +111,9 @@ pub extern "C" fn kaldvemir_take(
     let numbers: &[u64] = book;
     let choice = take(
         heads(numbers),
-        &numbers[4..36],
-        &numbers[36..68],
-        &numbers[68..100],
+        nexts(numbers),
+        tickets(numbers),
+        expiries(numbers),
         tick,
         ticket,
         s0,
@@ -136,9 +139,9 @@ pub extern "C" fn kaldvemir_commit(
     let numbers: &[u64] = book;
     let choice = commit(
         heads(numbers),
-        &numbers[4..36],
-        &numbers[36..68],
-        &numbers[68..100],
+        nexts(numbers),
+        tickets(numbers),
+        expiries(numbers),
         tick,
         ticket,
         position,
@@ -157,9 +160,9 @@ pub extern "C" fn kaldvemir_release(book: &mut [u64; 100], tick: u64, ticket: u6
     let numbers: &[u64] = book;
     let choice = release(
         heads(numbers),
-        &numbers[4..36],
-        &numbers[36..68],
-        &numbers[68..100],
+        nexts(numbers),
+        tickets(numbers),
+        expiries(numbers),
         tick,
         ticket,
     );
@@ -182,9 +185,9 @@ pub extern "C" fn kaldvemir_report(
     let numbers: &[u64] = book;
     let answer = report(
         heads(numbers),
-        &numbers[4..36],
-        &numbers[36..68],
-        &numbers[68..100],
+        nexts(numbers),
+        tickets(numbers),
+        expiries(numbers),
     );
     report_answer(answer, committed, complete)
 }

@@ -1,10 +1,10 @@
 // Given diagrams, 1 to 1,024 edges.
-use crate::answers::check_answer;
-use crate::answers::compare_answer;
-use crate::answers::invariants_answer;
-use crate::answers::kept_answer;
-use crate::answers::relabel_answer;
-use crate::answers::symmetries_answer;
+use kaldvemir_answers::check_answer;
+use kaldvemir_answers::compare_answer;
+use kaldvemir_answers::invariants_answer;
+use kaldvemir_answers::kept_answer;
+use kaldvemir_answers::relabel_answer;
+use kaldvemir_answers::symmetries_answer;
 ghost use mathlib.Core.Path.{_≡_};
 ghost use mathlib.Core.Logic.{_↔_};
 ghost use mathlib.Core.Bool.{true};
@@ -17,7 +17,7 @@ ghost use Rattle.labelling_operations.specs.declared.Symmetry.{Symmetry};
 ghost use Rattle.labelling_operations.specs.declared.KeepMark.{KeepMark};
 ghost use Rattle.invariants.specs.Promises.{InvariantsPromise};
 ghost use Rattle.invariants.specs.declared.Measured.{Measured};
-ghost use Rattle.kaldvemir.specs.Answers as answers;
+ghost use Rattle.kaldvemir_answers.specs.Answers as answers;
 
 #[no_mangle]
 pub extern "C" fn kaldvemir_check(s0: &[u16], s1: &[u16], root: u64) -> u16

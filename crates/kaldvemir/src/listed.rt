@@ -1,8 +1,8 @@
 // Listed diagrams, 1 to 50 edges: counts and positions, and the plain walk.
-use crate::answers::count_answer;
-use crate::answers::entry_answer;
-use crate::answers::place_answer;
-use crate::answers::walk_answer;
+use kaldvemir_answers::count_answer;
+use kaldvemir_answers::entry_answer;
+use kaldvemir_answers::place_answer;
+use kaldvemir_answers::walk_answer;
 ghost use mathlib.Core.Path.{_≡_};
 ghost use Rattle.listing_ranking.specs.Promises.{CountPromise, DiagramAtPromise, PositionPromise};
 ghost use Rattle.listing_ranking.specs.declared.Total.{Total};
@@ -10,7 +10,7 @@ ghost use Rattle.listing_ranking.specs.declared.Entry.{Entry};
 ghost use Rattle.listing_ranking.specs.declared.Place.{Place};
 ghost use Rattle.listing_plain_walk.specs.Promises.{PlainWalkPromise};
 ghost use Rattle.listing_plain_walk.specs.declared.Walked.{Walked};
-ghost use Rattle.kaldvemir.specs.Answers as answers;
+ghost use Rattle.kaldvemir_answers.specs.Answers as answers;
 
 #[no_mangle]
 pub extern "C" fn kaldvemir_count(size: u64, count: &mut u64) -> u16

@@ -1,10 +1,8 @@
 // Runs. A run lies with the caller as 54 numbers.
-use kaldvemir_layout::long;
+use kaldvemir_answers::runs::list_answer;
+use kaldvemir_answers::runs::step_answer;
 use kaldvemir_layout::runs::held;
-use kaldvemir_layout::runs::put_back;
-use run_blocks::Listing;
 use run_steps::Beginning;
-use run_steps::Stepping;
 ghost use mathlib.Core.Path.{_≡_};
 ghost use Rattle.run_steps.specs.Promises.{BeginPromise, StepPromise};
 ghost use Rattle.run_steps.specs.declared.Run.{Run};
@@ -12,7 +10,7 @@ ghost use Rattle.run_steps.specs.declared.Beginning.{Beginning};
 ghost use Rattle.run_steps.specs.declared.Stepping.{Stepping};
 ghost use Rattle.run_blocks.specs.Promises.{ListPromise, ListMarkedPromise};
 ghost use Rattle.run_blocks.specs.declared.Listing.{Listing};
-ghost use Rattle.kaldvemir.specs.Answers as answers;
+ghost use Rattle.kaldvemir_answers.specs.Answers as answers;
 ghost use Rattle.kaldvemir_layout.specs.Layout.{run-of, run-numbers};
 ghost use Rattle.kaldvemir_layout.specs.Layout as layout;
 
@@ -54,19 +52,7 @@ pub extern "C" fn kaldvemir_step(
     let answer = stepped.answer;
     let next = stepped.run;
     let items = next.items;
-    match answer {
-        Stepping::Refused(k) => k,
-        Stepping::End => {
-            put_back(run, 2, 0, items);
-            *written = 0;
-            0
-        }
-        Stepping::Length(m) => {
-            put_back(run, 1, m, items);
-            *written = long(m);
-            0
-        }
-    }
+    step_answer(answer, items, run, written)
 }
 
 #[no_mangle]
@@ -89,15 +75,7 @@ pub extern "C" fn kaldvemir_list(
     let listed = run_blocks::list(held(*run), rows, s0, s1, words, lengths);
     let answer = listed.answer;
     let next = listed.run;
-    let items = next.items;
-    match answer {
-        Listing::Refused(k) => k,
-        Listing::Rows(k) => {
-            put_back(run, next.stage as u16, next.length as u16, items);
-            *given = k;
-            0
-        }
-    }
+    list_answer(answer, next, run, given)
 }
 
 #[no_mangle]
@@ -121,13 +99,5 @@ pub extern "C" fn kaldvemir_list_marked(
     let listed = run_blocks::list_marked(held(*run), rows, s0, s1, words, lengths, marks);
     let answer = listed.answer;
     let next = listed.run;
-    let items = next.items;
-    match answer {
-        Listing::Refused(k) => k,
-        Listing::Rows(k) => {
-            put_back(run, next.stage as u16, next.length as u16, items);
-            *given = k;
-            0
-        }
-    }
+    list_answer(answer, next, run, given)
 }

@@ -1,6 +1,6 @@
 // Words.
-use crate::answers::letters_answer;
-use crate::answers::read_answer;
+use kaldvemir_answers::letters_answer;
+use kaldvemir_answers::read_answer;
 use labelling_rootings::least::second_is_lesser;
 ghost use mathlib.Core.Path.{_≡_};
 ghost use mathlib.Core.Bool.{cond};
@@ -10,7 +10,7 @@ ghost use Rattle.words.specs.Letters.{LettersPromise};
 ghost use Rattle.words.specs.declared.Lettered.{Lettered};
 ghost use Rattle.words_reading.specs.Read.{readAnswer, ReadPromise};
 ghost use Rattle.words_reading.specs.declared.Reading.{Reading};
-ghost use Rattle.kaldvemir.specs.Answers as answers;
+ghost use Rattle.kaldvemir_answers.specs.Answers as answers;
 
 #[no_mangle]
 pub extern "C" fn kaldvemir_read_word(

@@ -51,6 +51,28 @@ pub fn heads(numbers: &[u64]) -> Heads
     }
 }
 
+// The three lists of the book where they lie: the next positions of the 32 shares, their tickets, their expiries.
+pub fn nexts<'a>(numbers: &'a [u64]) -> &'a [u64]
+    requires { ⌜ length (now numbers) ≡ 100 ⌝ }
+    ensures { λ r. ⌜ (now r ≡ book-of (now (numbers .entry)) .next) × (length (now r) ≡ 32) ⌝ }
+{
+    &numbers[4..36]
+}
+
+pub fn tickets<'a>(numbers: &'a [u64]) -> &'a [u64]
+    requires { ⌜ length (now numbers) ≡ 100 ⌝ }
+    ensures { λ r. ⌜ (now r ≡ book-of (now (numbers .entry)) .ticket) × (length (now r) ≡ 32) ⌝ }
+{
+    &numbers[36..68]
+}
+
+pub fn expiries<'a>(numbers: &'a [u64]) -> &'a [u64]
+    requires { ⌜ length (now numbers) ≡ 100 ⌝ }
+    ensures { λ r. ⌜ (now r ≡ book-of (now (numbers .entry)) .expiry) × (length (now r) ≡ 32) ⌝ }
+{
+    &numbers[68..100]
+}
+
 // Carries out a change: only the numbers that it alters are written.
 pub fn change(numbers: &mut [u64; 100], c: Change)
     requires { ⌜ (length (now numbers) ≡ 100) × Placed c ⌝ }

@@ -14,7 +14,7 @@ use Rattle.diagrams.specs.Diagram.{Maps}
 use Rattle.labelling.specs.Labelling.{event, LabellingInvariant, events}
 use Rattle.labelling.proofs.Moves.{move-W, move-J, move-B, move-F}
 
--- the four events, with what tells them apart and the move
+-- the four events, with what distinguishes them, and the move
 pub data View (f g : ℕ → ℕ) (o : List ℕ) (k : ℕ) (r : List ℕ) : Type 0 where
   is-W : g k ≡ k → event f g o k r ≡ record { item = 0; marked = o; stack = r } → View f g o k r
   is-J : g k ≢ k → Has (g k) r → event f g o k r ≡ record { item = suc (suc (suc (find (g k) r))); marked = o; stack = removeAt (find (g k) r) r } → View f g o k r

@@ -28,17 +28,17 @@ record In (n : ℕ) (v : Event) : Type 0 where
   marked-in : All (OneTo n) (v .marked)
   stack-in : All (OneTo n) (v .stack)
 
-turn-φ : (φ : ℕ → ℕ) (w old fix : Bool) (p q s d : ℕ) (o r : List ℕ) → eventBy w old fix (φ p) (φ q) (φ s) d (map φ o) (map φ r) ≡ moved φ (eventBy w old fix p q s d o r)
-turn-φ φ true old fix p q s d o r = refl
-turn-φ φ false true fix p q s d o r = rw removeAt-map
-turn-φ φ false false true p q s d o r = refl
-turn-φ φ false false false p q s d o r = refl
+eventBy-φ : (φ : ℕ → ℕ) (w old fix : Bool) (p q s d : ℕ) (o r : List ℕ) → eventBy w old fix (φ p) (φ q) (φ s) d (map φ o) (map φ r) ≡ moved φ (eventBy w old fix p q s d o r)
+eventBy-φ φ true old fix p q s d o r = refl
+eventBy-φ φ false true fix p q s d o r = rw removeAt-map
+eventBy-φ φ false false true p q s d o r = refl
+eventBy-φ φ false false false p q s d o r = refl
 
-turn-in : (n : ℕ) (w old fix : Bool) (p q s d : ℕ) (o r : List ℕ) → OneTo n p → OneTo n q → OneTo n s → All (OneTo n) o → All (OneTo n) r → In n (eventBy w old fix p q s d o r)
-turn-in n true old fix p q s d o r a b c h k = record { marked-in = h; stack-in = k }
-turn-in n false true fix p q s d o r a b c h k = record { marked-in = h; stack-in = all-removeAt (OneTo n) d r k }
-turn-in n false false true p q s d o r a b c h k = record { marked-in = (a, h); stack-in = k }
-turn-in n false false false p q s d o r a b c h k = record { marked-in = (c, (b, (a, h))); stack-in = (c, (b, k)) }
+eventBy-in : (n : ℕ) (w old fix : Bool) (p q s d : ℕ) (o r : List ℕ) → OneTo n p → OneTo n q → OneTo n s → All (OneTo n) o → All (OneTo n) r → In n (eventBy w old fix p q s d o r)
+eventBy-in n true old fix p q s d o r a b c h k = record { marked-in = h; stack-in = k }
+eventBy-in n false true fix p q s d o r a b c h k = record { marked-in = h; stack-in = all-removeAt (OneTo n) d r k }
+eventBy-in n false false true p q s d o r a b c h k = record { marked-in = (a, h); stack-in = k }
+eventBy-in n false false false p q s d o r a b c h k = record { marked-in = (c, (b, (a, h))); stack-in = (c, (b, k)) }
 
 first-φ : (φ : ℕ → ℕ) (fix : Bool) (p q s : ℕ) → firstEvent fix (φ p) (φ q) (φ s) ≡ moved φ (firstEvent fix p q s)
 first-φ φ true p q s = refl
@@ -62,7 +62,7 @@ module _ (n : ℕ) (f g f′ g′ φ : ℕ → ℕ) (D : Maps n f g) (c : Isomor
 
   move-in : (o : List ℕ) (k : ℕ) (r : List ℕ) → All (OneTo n) o → OneTo n k → All (OneTo n) r → In n (event f g o k r)
   unfolding event
-  move-in o k r a b d = turn-in n (eqb (g k) k) (has (g k) o) (eqb (f (g k)) (g k)) (g k) (f (g k)) (f (f (g k))) (find (g k) r) o r p (D .black-in (g k) p) (D .black-in (f (g k)) (D .black-in (g k) p)) a d
+  move-in o k r a b d = eventBy-in n (eqb (g k) k) (has (g k) o) (eqb (f (g k)) (g k)) (g k) (f (g k)) (f (f (g k))) (find (g k) r) o r p (D .black-in (g k) p) (D .black-in (f (g k)) (D .black-in (g k) p)) a d
     where
       p : OneTo n (g k)
       p = D .white-in k b
@@ -71,7 +71,7 @@ module _ (n : ℕ) (f g f′ g′ φ : ℕ → ℕ) (D : Maps n f g) (c : Isomor
   unfolding event
   move-φ o k r a b d =
       rw (← c .whites k b, eqb-φ (g k) k p b, has-φ (g k) o p a, ← c .blacks (g k) p, eqb-φ (f (g k)) (g k) q p, ← c .blacks (f (g k)) q, find-φ (g k) r p d)
-      (turn-φ φ (eqb (g k) k) (has (g k) o) (eqb (f (g k)) (g k)) (g k) (f (g k)) (f (f (g k))) (find (g k) r) o r)
+      (eventBy-φ φ (eqb (g k) k) (has (g k) o) (eqb (f (g k)) (g k)) (g k) (f (g k)) (f (f (g k))) (find (g k) r) o r)
     where
       p : OneTo n (g k)
       p = D .white-in k b

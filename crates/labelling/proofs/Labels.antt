@@ -27,15 +27,15 @@ pub record Extends (o o′ : List ℕ) : Type 0 where
   pub more : List ℕ
   pub is : o′ ≡ more ++ o
 
-turn-extends : (w old fix : Bool) (p q s d : ℕ) (o r : List ℕ) → Extends o (eventBy w old fix p q s d o r .marked)
-turn-extends true old fix p q s d o r = record { more = []; is = refl }
-turn-extends false true fix p q s d o r = record { more = []; is = refl }
-turn-extends false false true p q s d o r = record { more = p ∷ []; is = refl }
-turn-extends false false false p q s d o r = record { more = s ∷ q ∷ p ∷ []; is = refl }
+eventBy-extends : (w old fix : Bool) (p q s d : ℕ) (o r : List ℕ) → Extends o (eventBy w old fix p q s d o r .marked)
+eventBy-extends true old fix p q s d o r = record { more = []; is = refl }
+eventBy-extends false true fix p q s d o r = record { more = []; is = refl }
+eventBy-extends false false true p q s d o r = record { more = p ∷ []; is = refl }
+eventBy-extends false false false p q s d o r = record { more = s ∷ q ∷ p ∷ []; is = refl }
 
 move-extends : (f g : ℕ → ℕ) (o : List ℕ) (k : ℕ) (r : List ℕ) → Extends o (event f g o k r .marked)
 unfolding event
-move-extends f g o k r = turn-extends (eqb (g k) k) (has (g k) o) (eqb (f (g k)) (g k)) (g k) (f (g k)) (f (f (g k))) (find (g k) r) o r
+move-extends f g o k r = eventBy-extends (eqb (g k) k) (has (g k) o) (eqb (f (g k)) (g k)) (g k) (f (g k)) (f (f (g k))) (find (g k) r) o r
 
 pub run-extends : (f g : ℕ → ℕ) (m : ℕ) (o st : List ℕ) → Extends o (events f g m o st .marked)
 unfolding events

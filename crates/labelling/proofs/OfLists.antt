@@ -87,8 +87,8 @@ module _ (s0 s1 : List ℕ) (root : ℕ) (A : Accepts s0 s1 root) where
   unfolding characteristic
   characteristic-size = length-listed _ n
 
-  pub characteristic-alike : RootedIsomorphic s0 s1 root (characteristic s0 s1 root .black) (characteristic s0 s1 root .white) 1
-  characteristic-alike = record { sizes = sym characteristic-size; by = labelOf (labels s0 s1 root); is = labels-carry; roots = root-label }
+  pub characteristic-isomorphic : RootedIsomorphic s0 s1 root (characteristic s0 s1 root .black) (characteristic s0 s1 root .white) 1
+  characteristic-isomorphic = record { sizes = sym characteristic-size; by = labelOf (labels s0 s1 root); is = labels-carry; roots = root-label }
 
   pub word-spelled : spell (wordOf s0 s1 root) ≡ some (characteristic s0 s1 root)
   unfolding wordOf characteristic labels
@@ -98,22 +98,22 @@ module _ (s0 s1 : List ℕ) (root : ℕ) (A : Accepts s0 s1 root) where
   word-of-size = record { pair = characteristic s0 s1 root; spelt = word-spelled; sized = characteristic-size }
 
 module _ (s0 s1 : List ℕ) (r : ℕ) (A : Accepts s0 s1 r) (t0 t1 : List ℕ) (q : ℕ) (B : Accepts t0 t1 q) where
-  pub alike-words : RootedIsomorphic s0 s1 r t0 t1 q → wordOf s0 s1 r ≡ wordOf t0 t1 q
+  pub isomorphic-words : RootedIsomorphic s0 s1 r t0 t1 q → wordOf s0 s1 r ≡ wordOf t0 t1 q
   unfolding wordOf
-  alike-words i = iso-words _ _ _ (diagram s0 s1 r A) r (A .root-in) _ _ _ (diagram t0 t1 q B) q (B .root-in) i
+  isomorphic-words i = iso-words _ _ _ (diagram s0 s1 r A) r (A .root-in) _ _ _ (diagram t0 t1 q B) q (B .root-in) i
 
-  pub words-alike : wordOf s0 s1 r ≡ wordOf t0 t1 q → RootedIsomorphic s0 s1 r t0 t1 q
+  pub words-isomorphic : wordOf s0 s1 r ≡ wordOf t0 t1 q → RootedIsomorphic s0 s1 r t0 t1 q
   unfolding wordOf
-  words-alike w = words-iso _ _ _ (diagram s0 s1 r A) r (A .root-in) _ _ _ (diagram t0 t1 q B) q (B .root-in) w
+  words-isomorphic w = words-iso _ _ _ (diagram s0 s1 r A) r (A .root-in) _ _ _ (diagram t0 t1 q B) q (B .root-in) w
 
   -- equal words and equal characteristic labellings are the same thing
   pub words-results : wordOf s0 s1 r ≡ wordOf t0 t1 q → characteristic s0 s1 r ≡ characteristic t0 t1 q
   words-results w = some-inj _ _ (sym (word-spelled s0 s1 r A) ∙ ap spell w ∙ word-spelled t0 t1 q B)
 
-  pub results-alike : characteristic s0 s1 r ≡ characteristic t0 t1 q → RootedIsomorphic s0 s1 r t0 t1 q
-  results-alike e =
-      root-isomorphic-trans (characteristic-alike s0 s1 r A)
-      (rw e (root-isomorphic-sym (diagram t0 t1 q B .maps) (B .root-in) (characteristic-alike t0 t1 q B)))
+  pub results-isomorphic : characteristic s0 s1 r ≡ characteristic t0 t1 q → RootedIsomorphic s0 s1 r t0 t1 q
+  results-isomorphic e =
+      root-isomorphic-trans (characteristic-isomorphic s0 s1 r A)
+      (rw e (root-isomorphic-sym (diagram t0 t1 q B .maps) (B .root-in) (characteristic-isomorphic t0 t1 q B)))
 
 -- a word spells a diagram that is labelled as it stands, with that word
 module _ (w : List ℕ) (D : Pair) (e : spell w ≡ some D) where

@@ -16,7 +16,7 @@ use Rattle.words.specs.Order.{Before, lesser}
 use Rattle.words.proofs.Order.{compared, before-irrefl, before-trans, Compared, lesser-least, before, equal, after}
 use Rattle.labelling.specs.Labelling.{wordOf}
 use Rattle.labelling.specs.Rootings.{leastOf, leastWord, Kept}
-use Rattle.labelling.proofs.OfLists.{alike-words, words-alike}
+use Rattle.labelling.proofs.OfLists.{isomorphic-words, words-isomorphic}
 
 pub accepts-rerooted : (s0 s1 : List ℕ) (r : ℕ) → Accepts s0 s1 r → (x : ℕ) → OneTo (length s0) x → Accepts s0 s1 x
 accepts-rerooted s0 s1 r A x e = record {
@@ -101,19 +101,19 @@ module _ (s0 s1 : List ℕ) (root : ℕ) (e : OneTo (length s0) root) where
 -- ---- isomorphic without roots
 
 module _ (s0 s1 : List ℕ) (r : ℕ) (A : Accepts s0 s1 r) (t0 t1 : List ℕ) (q : ℕ) (B : Accepts t0 t1 q) where
-  pub rooting-alike : (x : ℕ) → OneTo (length s0) x → wordOf s0 s1 x ≡ wordOf t0 t1 q → Isomorphic s0 s1 t0 t1
-  rooting-alike x e w = root-isomorphic-isomorphic (words-alike s0 s1 x (accepts-rerooted s0 s1 r A x e) t0 t1 q B w)
+  pub rooting-isomorphic : (x : ℕ) → OneTo (length s0) x → wordOf s0 s1 x ≡ wordOf t0 t1 q → Isomorphic s0 s1 t0 t1
+  rooting-isomorphic x e w = root-isomorphic-isomorphic (words-isomorphic s0 s1 x (accepts-rerooted s0 s1 r A x e) t0 t1 q B w)
 
   -- an isomorphism carries rooting to rooting, with its word
-  pub alike-carries : (i : Isomorphic s0 s1 t0 t1) (x : ℕ) → OneTo (length s0) x → OneTo (length t0) (i .by x) × (wordOf s0 s1 x ≡ wordOf t0 t1 (i .by x))
-  alike-carries i x e =
+  pub isomorphic-carries : (i : Isomorphic s0 s1 t0 t1) (x : ℕ) → OneTo (length s0) x → OneTo (length t0) (i .by x) × (wordOf s0 s1 x ≡ wordOf t0 t1 (i .by x))
+  isomorphic-carries i x e =
       let y : OneTo (length t0) (i .by x) = (let z = i .is .into x e in let s = i .sizes in omega arith) in
-      (y, alike-words s0 s1 x (accepts-rerooted s0 s1 r A x e) t0 t1 (i .by x) (accepts-rerooted t0 t1 q B (i .by x) y) record { sizes = i .sizes; by = i .by; is = i .is; roots = refl })
+      (y, isomorphic-words s0 s1 x (accepts-rerooted s0 s1 r A x e) t0 t1 (i .by x) (accepts-rerooted t0 t1 q B (i .by x) y) record { sizes = i .sizes; by = i .by; is = i .is; roots = refl })
 
-  pub alike-rooting : Isomorphic s0 s1 t0 t1 → (x : ℕ) × OneTo (length s0) x × (wordOf s0 s1 x ≡ wordOf t0 t1 q)
-  alike-rooting i =
+  pub isomorphic-rooting : Isomorphic s0 s1 t0 t1 → (x : ℕ) × OneTo (length s0) x × (wordOf s0 s1 x ≡ wordOf t0 t1 q)
+  isomorphic-rooting i =
       let o = i .is .onto q (let z = B .root-in in let s = i .sizes in omega arith) in
-      (o .0, o .1, alike-carries i (o .0) (o .1) .1 ∙ ap (wordOf t0 t1) (o .2))
+      (o .0, o .1, isomorphic-carries i (o .0) (o .1) .1 ∙ ap (wordOf t0 t1) (o .2))
 
   -- the least of one is the least of the other
   least-carried : (i : Isomorphic s0 s1 t0 t1) → LeastOf t0 t1 (length t0) (leastWord s0 s1)
@@ -123,19 +123,19 @@ module _ (s0 s1 : List ℕ) (r : ℕ) (A : Accepts s0 s1 r) (t0 t1 : List ℕ) (
       L = least-word s0 s1 (A .size .0)
 
       c : OneTo (length t0) (i .by (L .rooting)) × (wordOf s0 s1 (L .rooting) ≡ wordOf t0 t1 (i .by (L .rooting)))
-      c = alike-carries i (L .rooting) (L .within)
+      c = isomorphic-carries i (L .rooting) (L .within)
 
       none : (y : ℕ) → OneTo (length t0) y → ¬ Before (wordOf t0 t1 y) (leastWord s0 s1)
       none y e b =
           let o = i .is .onto y (let s = i .sizes in omega arith) in
-          L .none-before (o .0) (o .1) (rw (alike-carries i (o .0) (o .1) .1 ∙ ap (wordOf t0 t1) (o .2)) b)
+          L .none-before (o .0) (o .1) (rw (isomorphic-carries i (o .0) (o .1) .1 ∙ ap (wordOf t0 t1) (o .2)) b)
 
-  pub alike-least : Isomorphic s0 s1 t0 t1 → leastWord s0 s1 ≡ leastWord t0 t1
-  alike-least i = least-same t0 t1 (length t0) (leastWord s0 s1) (leastWord t0 t1) (least-carried i) (least-word t0 t1 (B .size .0))
+  pub isomorphic-least : Isomorphic s0 s1 t0 t1 → leastWord s0 s1 ≡ leastWord t0 t1
+  isomorphic-least i = least-same t0 t1 (length t0) (leastWord s0 s1) (leastWord t0 t1) (least-carried i) (least-word t0 t1 (B .size .0))
 
-  pub least-alike : leastWord s0 s1 ≡ leastWord t0 t1 → Isomorphic s0 s1 t0 t1
-  least-alike w = root-isomorphic-isomorphic
-      (words-alike s0 s1 (L .rooting) (accepts-rerooted s0 s1 r A (L .rooting) (L .within)) t0 t1 (K .rooting) (accepts-rerooted t0 t1 q B (K .rooting) (K .within)) (sym (L .is) ∙ w ∙ K .is))
+  pub least-isomorphic : leastWord s0 s1 ≡ leastWord t0 t1 → Isomorphic s0 s1 t0 t1
+  least-isomorphic w = root-isomorphic-isomorphic
+      (words-isomorphic s0 s1 (L .rooting) (accepts-rerooted s0 s1 r A (L .rooting) (L .within)) t0 t1 (K .rooting) (accepts-rerooted t0 t1 q B (K .rooting) (K .within)) (sym (L .is) ∙ w ∙ K .is))
     where
       L : LeastOf s0 s1 (length s0) (leastWord s0 s1)
       L = least-word s0 s1 (A .size .0)

@@ -2,14 +2,15 @@
 -- Labels are given from 1 upward. `marked` is the list of the labelled edges, the last labelled first, so an edge's label is its
 -- place counted from the end; the stack holds the pending edges, its top first.
 --
---   event f g marked k r     the event of the popped edge k, r being the rest of the stack: its item, and what is marked and pending after it
+--   event f g marked k r                 the event of the popped edge k, with r the rest of the stack: its item, and what is marked and
+--                                        pending after it
 --   LabellingInvariant n f g marked st   what holds at each point along the labelling of a diagram of size n
---   events f g m marked st     the events from a stack on, at most m of them: what is marked in the end, and the items
---   label n f g r           the whole labelling of a diagram of size n from the root r: its marked edges and its word
---   labelOf marked x            the label of edge x; 0 where it has none
---   edgeOf marked j           the edge of label j
---   relabel marked f        the map f seen through the labels
---   wordOf, characteristic  the word of a rooted diagram given as lists, and the diagram relabelled: its characteristic labelling
+--   events f g m marked st               the events from a stack on, at most m of them: what is marked in the end, and the items
+--   label n f g r                        the whole labelling of a diagram of size n from the root r: its marked edges and its word
+--   labelOf marked x                     the label of edge x; 0 where it has none
+--   edgeOf marked j                      the edge of label j
+--   relabel marked f                     the map f seen through the labels
+--   wordOf, characteristic               the word of a rooted diagram given as lists, and the diagram relabelled: its characteristic labelling
 use mathlib.Core.Bool.{Bool, true, false, cond}
 use mathlib.Core.List.{List, [], _∷_}
 use Prim.Native.Nat.{ℕ, zero, suc}
@@ -84,9 +85,11 @@ relabel o f j = labelOf o (f (edgeOf o j))
 unfoldable pub labels : List ℕ → List ℕ → ℕ → List ℕ
 labels s0 s1 root = label (length s0) (at s0) (at s1) root .marked
 
+-- the code of the rooted map: equal exactly for isomorphic rooted diagrams
 unfoldable pub wordOf : List ℕ → List ℕ → ℕ → List ℕ
 wordOf s0 s1 root = label (length s0) (at s0) (at s1) root .word
 
+-- the field's term is the canonical labelling of a rooted map: the labels do not depend on how the edges were numbered
 unfoldable pub characteristic : List ℕ → List ℕ → ℕ → Pair
 characteristic s0 s1 root =
     let o = labels s0 s1 root in

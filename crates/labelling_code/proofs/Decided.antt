@@ -17,7 +17,7 @@ use Rattle.labelling.specs.Labelling.{event, wordOf}
 use Rattle.labelling.proofs.Along.{size}
 use Rattle.labelling_code.specs.Scratch.{Underway, firstEventOf, EventDone}
 use Rattle.labelling_code.specs.Traced.{continues, Traced, Followed}
-use Rattle.labelling_code.specs.declared.events.EventItem.{EventItem}
+use Rattle.labelling_events.specs.declared.EventItem.{EventItem}
 use Rattle.labelling_code.proofs.Sofar.{sofar-empty, sofar-word, sofar-end, Filled, filled-begin, filled-few, filled-more}
 
 pub Decided : List ℕ → List ℕ → Type 0

@@ -1,4 +1,3 @@
 pub mod Arrays
-pub mod Underway
 pub mod Sofar
 pub mod Decided

@@ -18,7 +18,7 @@ use Rattle.labelling.specs.Labelling.{event, Labelled, events, firstEvent, labe
 use Rattle.labelling.proofs.Along.{falls, size}
 use Rattle.labelling.proofs.Labels.{Done, done, whole, edge-n}
 use Rattle.labelling_code.specs.Scratch.{LabelsHeld, SomeLabelsHeld, Underway, firstEventOf, EventDone, WordWritten}
-use Rattle.labelling_code.specs.declared.events.EventItem.{EventItem}
+use Rattle.labelling_events.specs.declared.EventItem.{EventItem}
 
 -- the items w before what is to come
 abbrev pub after : List ℕ → Labelled → Labelled

@@ -1,9 +1,9 @@
 -- A rooting's word traced along another word, `own`: it is written only as far as the first item that differs, and stands to `own` as
 -- the whole word does.
 --
---   continues own i x top     the trace goes on after the item x at place i: own has it there too, and an edge is pending
---   Traced s0 s1 x own c   c begins the word of the rooting x; whether it precedes own, and whether it is own, it shares with that word
---   Followed ..            a trace before the arrays are cleared: the labels it gave, the edges it left pending, and what it wrote
+--   continues own i x top   the trace goes on after the item x at place i: own has it there too, and an edge is pending
+--   Traced s0 s1 x own c    c begins the word of the rooting x; whether it precedes own, and whether it is own, it shares with that word
+--   Followed ..             a trace before the arrays are cleared: the labels it gave, the edges it left pending, and what it wrote
 use mathlib.Core.Path.{_≡_}
 use mathlib.Core.Bool.{Bool, false, cond}
 use mathlib.Core.List.{List}

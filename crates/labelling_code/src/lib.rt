@@ -1,4 +1,4 @@
-// The labelling of a diagram carried out in lent arrays, proved to be the labelling of the crate `labelling`.
-mod events;
+// Whole labellings of a diagram, carried out event by event in lent arrays: the word and the lists written out, or a rooting's word traced
+// along another word.
 pub mod tracing;
 pub mod writing;

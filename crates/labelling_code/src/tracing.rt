@@ -1,8 +1,8 @@
 // A rooting's word traced along another word, as far as the first item that differs: what the least rooting, the symmetries and the
 // comparison need of it. The arrays are left fit for the next rooting, at the cost of what was labelled.
-use crate::events::begin;
-use crate::events::event;
 use crate::writing::take_back;
+use labelling_events::begin;
+use labelling_events::event;
 ghost use mathlib.Core.Path.{_≡_};
 ghost use Prim.Native.Nat.{suc, _<_, _≤_};
 ghost use lib.ListN.{length, getD, take};
@@ -52,10 +52,10 @@ fn follow_own(
     let mut len: usize = 1;
     let mut on = continues(own, 0, first.item, next);
     while on {
-        let turn = event(s0, s1, labels, order, next, prev, given);
-        cand[len] = turn.item;
-        given = turn.given;
-        on = continues(own, len, turn.item, next);
+        let done = event(s0, s1, labels, order, next, prev, given);
+        cand[len] = done.item;
+        given = done.given;
+        on = continues(own, len, done.item, next);
         len += 1;
     }
     Extent { len, given }

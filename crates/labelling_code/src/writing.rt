@@ -1,7 +1,7 @@
 // A whole labelling written out: the word, and the lists seen through the labels.
-use crate::events::begin;
-use crate::events::event;
-use crate::events::follow;
+use labelling_events::begin;
+use labelling_events::event;
+use labelling_events::follow;
 use lists::to_index;
 ghost use mathlib.Core.Path.{_≡_};
 ghost use mathlib.Core.List.{List, _++_, []};
@@ -34,9 +34,9 @@ pub fn write_word(
     let mut given = first.given;
     let mut len: usize = 1;
     while next[0] != 0 {
-        let turn = event(s0, s1, labels, order, next, prev, given);
-        word[len] = turn.item;
-        given = turn.given;
+        let done = event(s0, s1, labels, order, next, prev, given);
+        word[len] = done.item;
+        given = done.given;
         len += 1;
     }
     len

@@ -1,10 +1,10 @@
 -- The answers of relabel, compare, symmetries and kept, as document 01 numbers them: a number is 01's of the refusal, 0 where the call is
 -- accepted; a value is the answer's own, or `old` where the answer has no such value.
 --
---   relabel-number answer    1 to 9, or 0;  relabel-length, the word's length
---   compare-number answer    1 to 8, or 0;  compare-same, 1 the same and 0 different;  compare-side, a refusal's side
---   symmetries-number        1 to 8, or 0;  symmetries-count, their number
---   kept-number              1 to 8, or 0;  kept-mark, 1 kept and 0 not
+--   relabel-number answer   1 to 9, or 0;  relabel-length, the word's length
+--   compare-number answer   1 to 8, or 0;  compare-same, 1 the same and 0 different;  compare-side, a refusal's side
+--   symmetries-number       1 to 8, or 0;  symmetries-count, their number
+--   kept-number             1 to 8, or 0;  kept-mark, 1 kept and 0 not
 use Prim.Native.Nat.{ℕ}
 use Rattle.labelling_operations.specs.declared.Relabelling.{Relabelling}
 use Rattle.labelling_operations.specs.declared.Relabelling.the-variants as relabelling

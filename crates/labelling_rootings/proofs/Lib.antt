@@ -1,2 +1,1 @@
-pub mod LesserPart
 pub mod Tried

@@ -1,8 +1,8 @@
 -- A word w among the words of a diagram's rootings: what kept, compare and symmetries ask. The word need not be a rooting's.
 --
---   NoneBefore s0 s1 w       no rooting's word comes before w
---   SomeRooting s0 s1 w      some rooting has the word w
---   rootingsWith s0 s1 w     how many rootings have the word w
+--   NoneBefore s0 s1 w     no rooting's word comes before w
+--   SomeRooting s0 s1 w    some rooting has the word w
+--   rootingsWith s0 s1 w   how many rootings have the word w
 use mathlib.Core.Path.{_≡_}
 use mathlib.Core.List.{List}
 use Prim.Native.Nat.{ℕ}

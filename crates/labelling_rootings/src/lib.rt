@@ -3,7 +3,7 @@
 pub mod least;
 
 use labelling_code::tracing::trace;
-use least::second_is_lesser;
+use labelling_least::second_is_lesser;
 ghost use mathlib.Core.Path.{_≡_};
 ghost use mathlib.Core.Logic.{_↔_};
 ghost use mathlib.Core.Bool.{true};

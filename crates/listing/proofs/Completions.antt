@@ -129,7 +129,7 @@ before-from x w [] a = tt
 before-from x w ([] ∷ ws) a = absurd (a .0)
 before-from x w ((y ∷ v) ∷ ws) a = (inl (a .0), before-from x w ws (a .1))
 
--- the listing that begin with x, and then listing that begin with more than x
+-- words that begin with x, and then words that begin with more than x
 pub sorted-each : (x : ℕ) (ws t : List (List ℕ)) → Sorted ws → Sorted t → All (From (suc x)) t → Sorted (prefixEach x ws ++ t)
 sorted-each x [] t s r a = r
 sorted-each x (w ∷ ws) t s r a = (all-append (Before (x ∷ w)) (prefixEach x ws) t (before-each x w ws (s .0)) (before-from x w t a), sorted-each x ws t (s .1) r a)

@@ -12,7 +12,7 @@ use Rattle.words.specs.Shape.{Word}
 use Rattle.words.specs.Word.{Pair, spell, Spells}
 use Rattle.words.proofs.Shape.{word-spells, spells-word}
 use Rattle.labelling.specs.Labelling.{wordOf, characteristic}
-use Rattle.labelling.proofs.OfLists.{characteristic-alike, word-spelled, word-of-size, alike-words, spelled-wordOf, spelled-accepted, spelled-characteristic}
+use Rattle.labelling.proofs.OfLists.{characteristic-isomorphic, word-spelled, word-of-size, isomorphic-words, spelled-wordOf, spelled-accepted, spelled-characteristic}
 use Rattle.listing.specs.Diagrams.{diagramOf, diagramAt}
 use Rattle.listing.specs.Listing.{count}
 use Rattle.listing.specs.Position.{wordAt, position}
@@ -61,11 +61,11 @@ module _ (s0 s1 : List ℕ) (root : ℕ) (A : Accepts s0 s1 root) where
   unfolding diagramAt
   position-diagram = ap diagramOf (at-position n w its-word) ∙ diagram-spelled w (characteristic s0 s1 root) (word-spelled s0 s1 root A)
 
-  pub position-alike : RootedIsomorphic s0 s1 root (diagramAt n (position n w) .black) (diagramAt n (position n w) .white) 1
-  position-alike = rw position-diagram (characteristic-alike s0 s1 root A)
+  pub position-isomorphic : RootedIsomorphic s0 s1 root (diagramAt n (position n w) .black) (diagramAt n (position n w) .white) 1
+  position-isomorphic = rw position-diagram (characteristic-isomorphic s0 s1 root A)
 
   -- and no other diagram of the listing is isomorphic to it
   pub position-only : (q : ℕ) → OneTo (count n) q → n ≤ 1024 → RootedIsomorphic s0 s1 root (diagramAt n q .black) (diagramAt n q .white) 1 → q ≡ position n w
   position-only q e l i =
       at-once n q (position n w) e position-counted
-      (sym (at-wordOf n q e) ∙ sym (alike-words s0 s1 root A (diagramAt n q .black) (diagramAt n q .white) 1 (at-accepted n q e l) i) ∙ sym (at-position n w its-word))
+      (sym (at-wordOf n q e) ∙ sym (isomorphic-words s0 s1 root A (diagramAt n q .black) (diagramAt n q .white) 1 (at-accepted n q e l) i) ∙ sym (at-position n w its-word))

@@ -49,7 +49,7 @@ pub length-listing : (n : ℕ) → length (listing n) ≡ less1 n 0 (λ f. ways-
 unfolding listing
 length-listing n = simp (length-append, length-each, length-less1 n (λ f. completions n 1 f) (λ f. ways-in n 1 f) (λ f. length-completions n 1 f), length-less3 n (λ f. completions n 3 f) (λ f. ways-in n 3 f) (λ f. length-completions n 3 f))
 
--- the ways-in of size n
+-- the same by the numbers of ways
 pub counted : (n : ℕ) → length (listing n) ≡ less1 n 0 (λ f. ways 1 f) + less3 n 0 (λ f. ways 3 f)
 counted n = length-listing n ∙ both _ _ _ _ (less1-same n 0 _ _ (λ g q. ways-by n 1 g (omega arith))) (less3-same n 0 _ _ (λ g q. ways-by n 3 g (omega arith)))
   where

@@ -1,7 +1,7 @@
 -- The diagram of a word and the diagram at a position (document 01, "Diagram at a position").
 --
---   diagramOf w           the diagram that w spells; two empty lists where it spells none
---   diagramAt n p         the diagram at position p of size n: the one that the p-th word spells
+--   diagramOf w      the diagram that w spells; two empty lists where it spells none
+--   diagramAt n p    the diagram at position p of size n: the one that the p-th word spells
 use mathlib.Core.Option.{Option, none, some}
 use mathlib.Core.List.{List, []}
 use Prim.Native.Nat.{ℕ}

@@ -1,13 +1,14 @@
--- The words of a size, listed in dictionary order (document 01, "Count", "Position").
+-- The words of a size, listed in dictionary order (document 01, "Count", "Position"): the exhaustive generation of the rooted maps of that
+-- size in lexicographic order of their codes. Its length, the count, is their number.
 --
---   prefixEach x ws           each of the words ws with the item x before it
---   prefixRange x j ws          the same for the j items x, x + 1, .., one after the other
---   completions m h f         the ways to go on at a stack of height h with f labels free, by their first event: W, F, B, J0, J1, ..
---                       (m bounds their length; h + f is enough)
---   listing n           the words that spell a diagram of n edges
---   ways h f            how many ways there are to go on from there
---   count n             how many words spell a diagram of n edges
---   Sorted ws           each word of ws comes before all that follow it
+--   prefixEach x ws       each of the words ws with the item x before it
+--   prefixRange x j ws    the same for the j items x, x + 1, .., one after the other
+--   completions m h f     the completions, the ways to go on, at a stack of height h with f labels free, by their first event: W, F, B, J0, J1, ..
+--                         (m bounds their length; h + f is enough)
+--   listing n             the words that spell a diagram of n edges
+--   ways h f              how many ways there are to go on from there
+--   count n               how many words spell a diagram of n edges
+--   Sorted ws             each word of ws comes before all that follow it
 -- That the listing holds exactly the words of size n, each once, in dictionary order, is a theorem: `Listing` in crate theorems.
 use Prim.Native.Nat.{ℕ, zero, suc, _+_, _*_}
 use mathlib.Core.List.{List, [], _∷_, _++_}

@@ -1,8 +1,9 @@
--- Positions (document 01): the place of a word in dictionary order among the words of its size, from 1.
+-- Positions (document 01): the place of a word in dictionary order among the words of its size, from 1. In the field's terms the position
+-- is the rank of the word, and the word at a position comes of unranking.
 --
---   wordAt n p          the word at position p of size n; [] where there is none
---   place w ws          how many words of the list ws stand before the first w
---   position n w        the position of the word w
+--   wordAt n p      the word at position p of size n; [] where there is none
+--   place w ws      how many words of the list ws stand before the first w
+--   position n w    the position of the word w
 use mathlib.Core.Bool.{cond}
 use Prim.Native.Nat.{ℕ, zero, suc}
 use mathlib.Core.List.{List, [], _∷_}

@@ -1,8 +1,8 @@
--- The word at a place and the place of a word, found by the numbers of ways to go on alone. Places here go from 0.
+-- Ranking and unranking: the place of a word and the word at a place, found by the numbers of ways to go on alone. Places here go from 0.
 --
---   waysF h f, buds h f     how many ways begin with F, and with B, at a stack of height h + 1
---   joinBlock x j n i k          place i among j blocks of n words, the first block's beginning with x, the next with x + 1, ..; k gives the rest
---   unrank m h f i        the way to go on at place i (m bounds its length)
+--   waysF h f, waysB h f    how many ways begin with F, and with B, at a stack of height h + 1
+--   joinBlock x j n i k     place i among j blocks of n words, the first block's beginning with x, the next with x + 1, ..; k gives the rest
+--   unrank m h f i          the way to go on at place i (m bounds its length)
 --   rank h f w              the place of the way to go on w
 use mathlib.Core.Bool.{cond}
 use Prim.Native.Nat.{ℕ, zero, suc, _+_, _*_, _-_}

@@ -13,7 +13,7 @@ use Rattle.lists.specs.Ranges.{OneTo, every}
 use Rattle.lists.proofs.Tests.{leb-true, lt?}
 use Rattle.lists.proofs.Ranges.{every-true}
 use Rattle.words.specs.Shape.{less1, less3}
-use Rattle.words.proofs.Outputs.{from-0, from-from}
+use Rattle.lists.proofs.Overwriting.{from-0, from-from}
 use Rattle.listing.specs.Listing.{prefixEach, completions, listing}
 use Rattle.listing_plain_walk.specs.Promises.{concatenated, PlainWalkPromise}
 use Rattle.listing_plain_walk.specs.declared.Walked.the-variants.{Numbers}

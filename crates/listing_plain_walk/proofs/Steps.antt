@@ -8,8 +8,8 @@ use native.Mathlib.Numerals.{add-one}
 use native.Mathlib.Omega.{arith}
 use lib.ListN.{length, set, take, length-append, length-set}
 use lib.Seq.{take-set-le, take-suc-set, take-take, length-take-le}
-use Rattle.words.specs.Outputs.{overwriteFrom}
-use Rattle.words.proofs.Outputs.{from-none, from-from}
+use Rattle.lists.specs.Overwriting.{overwriteFrom}
+use Rattle.lists.proofs.Overwriting.{from-none, from-from}
 use Rattle.listing.specs.Listing.{prefixEach}
 use Rattle.listing_plain_walk.specs.Walk.{allCompletions, completionsAfter, concatenatedBehind, LeadsTo, WalkRoom, WalkAdded}
 use Rattle.listing_plain_walk.proofs.Rest.{rest-end, rest-dead, begun, begun-all}
@@ -28,12 +28,12 @@ ending out i word len R =
 
 pub ended : (out : List ℕ) (i : ℕ) (word : List ℕ) (len : ℕ) (out′ : List ℕ) (j : ℕ) → len ≤ length word
     → (j ≡ i + len) × (out′ ≡ overwriteFrom i (take len word) out) → WalkAdded out i word len 0 0 out′ word j
-ended out i word len out′ j l k = record { up-to = rw (text-end (take len word), length-take-le len word l) (k .0); written = rw (text-end (take len word)) (k .1); kept = refl }
+ended out i word len out′ j l k = record { up-to = rw (text-end (take len word), length-take-le len word l) (k .0); written = rw (text-end (take len word)) (k .1); word-same = refl }
 
 pub dead : (out : List ℕ) (i : ℕ) (word : List ℕ) (len f : ℕ) → f ≢ 0 → WalkAdded out i word len 0 f out word i
 dead out i word len f n =
     let e : concatenatedBehind (take len word) (allCompletions 0 f) ≡ [] = rw (rest-dead f n) (text-none (take len word)) in
-    record { up-to = rw e (sym (add-zero i)); written = rw e (sym (from-none i out)); kept = refl }
+    record { up-to = rw e (sym (add-zero i)); written = rw e (sym (from-none i out)); word-same = refl }
 
 -- ---- branch
 
@@ -42,7 +42,7 @@ pub record Branched (out₀ : List ℕ) (i : ℕ) (word₀ : List ℕ) (len h f 
   pub events : e ≤ h + 3
   pub out-long : length out ≡ length out₀
   pub word-long : length word ≡ length word₀
-  pub kept : take len word ≡ take len word₀
+  pub word-same : take len word ≡ take len word₀
   pub up-to : j ≡ i + length (concatenatedBehind (take len word₀) (begun e h f))
   pub written : out ≡ overwriteFrom i (concatenatedBehind (take len word₀) (begun e h f)) out₀
 
@@ -50,10 +50,10 @@ pub branched-none : (out : List ℕ) (i : ℕ) (word : List ℕ) (len h f : ℕ)
 unfolding begun
 branched-none out i word len h f =
     let e : concatenatedBehind (take len word) [] ≡ [] = text-none (take len word) in
-    record { events = omega arith; out-long = refl; word-long = refl; kept = refl; up-to = rw e (sym (add-zero i)); written = rw e (sym (from-none i out)) }
+    record { events = omega arith; out-long = refl; word-long = refl; word-same = refl; up-to = rw e (sym (add-zero i)); written = rw e (sym (from-none i out)) }
 
 pub branched-all : (out₀ : List ℕ) (i : ℕ) (word₀ : List ℕ) (len h f : ℕ) (out word : List ℕ) (j : ℕ) → Branched out₀ i word₀ len h f out word j (h + 3) → WalkAdded out₀ i word₀ len (suc h) f out word j
-branched-all out₀ i word₀ len h f out word j B = record { up-to = rw begun-all at (B .up-to); written = rw begun-all at (B .written); kept = B .kept }
+branched-all out₀ i word₀ len h f out word j B = record { up-to = rw begun-all at (B .up-to); written = rw begun-all at (B .written); word-same = B .word-same }
 
 begun-suc : (p : List ℕ) (h f e : ℕ) → concatenatedBehind p (begun (suc e) h f) ≡ concatenatedBehind p (begun e h f) ++ concatenatedBehind (p ++ (e ∷ [])) (completionsAfter e h f)
 unfolding begun
@@ -73,7 +73,7 @@ take-less l a b e = sym (take-take l (l + 1) a (omega arith)) ∙ ap (λ (t : Li
 module _ (out₀ : List ℕ) (i : ℕ) (word₀ : List ℕ) (len h f : ℕ) (out word : List ℕ) (j e h′ f′ : ℕ) (B : Branched out₀ i word₀ len h f out word j e) (R : WalkRoom out₀ i word₀ len (suc h) f) (l : e < h + 3) (L : LeadsTo e h f h′ f′) where
   -- the word so far, with e
   next : take (len + 1) (set word len e) ≡ take len word₀ ++ (e ∷ [])
-  next = rw add-one (take-suc-set word len e (omega (arith, R .places, B .word-long)) ∙ ap (λ (t : List ℕ). t ++ (e ∷ [])) (B .kept))
+  next = rw add-one (take-suc-set word len e (omega (arith, R .places, B .word-long)) ∙ ap (λ (t : List ℕ). t ++ (e ∷ [])) (B .word-same))
 
   grown : concatenatedBehind (take len word₀) (begun (e + 1) h f) ≡ concatenatedBehind (take len word₀) (begun e h f) ++ concatenatedBehind (take (len + 1) (set word len e)) (allCompletions h′ f′)
   grown = rw (add-one e, next, L .same) (begun-suc (take len word₀) h f e)
@@ -101,7 +101,7 @@ module _ (out₀ : List ℕ) (i : ℕ) (word₀ : List ℕ) (len h f : ℕ) (out
     events = omega arith;
     out-long = a ∙ B .out-long;
     word-long = b ∙ length-set word len e ∙ B .word-long;
-    kept = take-less len word′ (set word len e) (A .kept) ∙ take-set-le len word len e (omega arith) ∙ B .kept;
+    word-same = take-less len word′ (set word len e) (A .word-same) ∙ take-set-le len word len e (omega arith) ∙ B .word-same;
     up-to = omega (arith, A .up-to, B .up-to, longer);
     written = A .written ∙ rw (B .written, B .up-to, grown) (from-from i (concatenatedBehind (take len word₀) (begun e h f)) out₀ (let b = longer in let c = fits in omega arith) (concatenatedBehind (take (len + 1) (set word len e)) (allCompletions h′ f′)));
   }

@@ -1,20 +1,9 @@
--- Words one after another, and a part of a list that was written to.
+-- Words one after another, each behind p.
 use mathlib.Core.Path.{_≡_, refl, sym, ap, _∙_}
-use mathlib.Core.Bool.{cond}
 use mathlib.Core.List.{List, [], _∷_, _++_, append-assoc, append-nil}
-use Prim.Native.Nat.{ℕ, _+_, _-_, _≤_}
-use native.Mathlib.Omega.{arith}
-use lib.ListN.{length, drop, length-drop}
-use lib.Dec.{leb}
-use borrow.Rule.Slice.PartMut.{midOf, putMid}
-use lib.Seq.{take-all}
-use Rattle.lists.proofs.Tests.{le-true}
-use Rattle.words.specs.Outputs.{overwriteFrom}
-use Rattle.words.proofs.Outputs.{from-part}
+use Prim.Native.Nat.{ℕ}
 use Rattle.listing.specs.Listing.{prefixEach}
 use Rattle.listing_plain_walk.specs.Walk.{concatenatedBehind}
-
--- ---- words, each behind p
 
 pub text-append : (p : List ℕ) (us vs : List (List ℕ)) → concatenatedBehind p (us ++ vs) ≡ concatenatedBehind p us ++ concatenatedBehind p vs
 unfolding concatenatedBehind
@@ -33,13 +22,3 @@ text-none p = refl
 pub text-one : (p : List ℕ) → concatenatedBehind p ([] ∷ []) ≡ p
 unfolding concatenatedBehind
 text-one p = append-nil (p ++ []) ∙ append-nil p
-
--- ---- writing from a place on
-
--- what `fill` makes of the part from place i to the end, put back into the list
-pub filled : (i : ℕ) (x a b : List ℕ) → i + length x ≤ length a
-    → b ≡ cond (leb (length x) (length (midOf i (length a - i) a))) (x ++ drop (length x) (midOf i (length a - i) a)) (midOf i (length a - i) a)
-    → putMid i (length a - i) a b ≡ overwriteFrom i x a
-filled i x a b h e =
-    let m : midOf i (length a - i) a ≡ drop i a = take-all (length a - i) (drop i a) (omega (arith, length-drop i a)) in
-    from-part i x a b h (e ∙ rw (le-true (length x) (length (midOf i (length a - i) a)) (rw (m, length-drop) (omega arith))))

@@ -1,7 +1,7 @@
--- What the plain walk promises (document 01, "The plain walk"): 35 for a size outside 1..9; 9 for a list of fewer than 1,024 numbers;
+-- What the plain walk, a backtracking enumeration, promises (document 01, "The plain walk"): 35 for a size outside 1..9; 9 for a list of fewer than 1,024 numbers;
 -- otherwise all words of the size one after another, in the order of the listing, and how many numbers that is.
 --
---   concatenated ws             the words ws one after another
+--   concatenated ws    the words ws one after another
 use mathlib.Core.Path.{_≡_}
 use mathlib.Core.Logic.{_⊎_}
 use mathlib.Core.List.{List, [], _∷_, _++_}

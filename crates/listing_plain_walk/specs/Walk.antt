@@ -1,14 +1,14 @@
 -- What the two routines of the plain walk ask and do. Only the height of the stack and the number of labels left count (Shape in crate words).
 --
---   allCompletions h f            the ways to go on at a stack of height h with f labels free, in order
---   completionsAfter e h f        the ways to go on after the event e, with h edges pending besides the one it popped
---   concatenatedBehind p ws           the words ws one after another, each behind p
+--   allCompletions h f         the ways to go on at a stack of height h with f labels free, in order
+--   completionsAfter e h f     the ways to go on after the event e, with h edges pending besides the one it popped
+--   concatenatedBehind p ws    the words ws one after another, each behind p
 use mathlib.Core.Path.{_≡_}
 use mathlib.Core.List.{List, [], _∷_, _++_}
 use Prim.Native.Nat.{ℕ, zero, suc, _+_, _*_, _≤_, _<_}
 use lib.ListN.{length, take}
 use Rattle.words.specs.Shape.{pre, less1, less3}
-use Rattle.words.specs.Outputs.{overwriteFrom}
+use Rattle.lists.specs.Overwriting.{overwriteFrom}
 use Rattle.listing.specs.Listing.{completions}
 
 unfoldable pub allCompletions : ℕ → ℕ → List (List ℕ)
@@ -40,4 +40,4 @@ pub record WalkRoom (out : List ℕ) (i : ℕ) (word : List ℕ) (len h f : ℕ)
 pub record WalkAdded (out : List ℕ) (i : ℕ) (word : List ℕ) (len h f : ℕ) (out′ word′ : List ℕ) (j : ℕ) : Type 0 where
   pub up-to : j ≡ i + length (concatenatedBehind (take len word) (allCompletions h f))
   pub written : out′ ≡ overwriteFrom i (concatenatedBehind (take len word) (allCompletions h f)) out
-  pub kept : take len word′ ≡ take len word
+  pub word-same : take len word′ ≡ take len word

@@ -1,9 +1,9 @@
-// The plain walk: all words of a small size, one after another.
-use lists::fill;
+// The plain walk: all words of a small size, one after another, by backtracking enumeration.
+use lists::fill_from;
 ghost use mathlib.Core.Path.{_≡_};
 ghost use Prim.Native.Nat.{suc, _+_, _≤_, _<_};
 ghost use lib.ListN.{length, take};
-ghost use Rattle.words.specs.Outputs.{overwriteFrom};
+ghost use Rattle.lists.specs.Overwriting.{overwriteFrom};
 ghost use Rattle.listing_plain_walk.specs.Promises.{PlainWalkPromise};
 ghost use Rattle.listing_plain_walk.specs.Walk.{LeadsTo, WalkRoom, WalkAdded};
 
@@ -12,13 +12,13 @@ pub enum Walked {
     Refused(u16),
 }
 
-// Writes the first len items of word into out from place at on, and gives the place after them.
-fn write(out: &mut [u16], at: usize, word: &[u16], len: usize) -> usize
-    requires { ⌜ (at + len ≤ length (now out)) × (len ≤ length (now word)) ⌝ }
-    ensures { λ r. ⌜ (r ≡ at + len) × (now (out .exit) ≡ overwriteFrom at (take len (now (word .entry))) (now (out .entry))) ⌝ }
+// Writes the first len items of word into out from a place on, and gives the place after them.
+fn write(out: &mut [u16], place: usize, word: &[u16], len: usize) -> usize
+    requires { ⌜ (place + len ≤ length (now out)) × (len ≤ length (now word)) ⌝ }
+    ensures { λ r. ⌜ (r ≡ place + len) × (now (out .exit) ≡ overwriteFrom place (take len (now (word .entry))) (now (out .entry))) ⌝ }
 {
-    fill(&mut out[at..], &word[..len]);
-    at + len
+    fill_from(out, place, &word[..len]);
+    place + len
 }
 
 // The height of the stack and the number of labels free.
@@ -54,11 +54,11 @@ fn after_event(e: u16, h: u16, f: u16) -> Left
 }
 
 // Branches on the events W, F, B, J0, J1, .. of an edge that is popped already; h edges are pending besides it.
-fn branch(out: &mut [u16], at: usize, word: &mut [u16], len: usize, h: u16, f: u16) -> usize
-    requires { ⌜ WalkRoom (now out) at (now word) len (suc h) f ⌝ }
-    ensures { λ r. ⌜ WalkAdded (now (out .entry)) at (now (word .entry)) len (suc h) f (now (out .exit)) (now (word .exit)) r ⌝ }
+fn branch(out: &mut [u16], place: usize, word: &mut [u16], len: usize, h: u16, f: u16) -> usize
+    requires { ⌜ WalkRoom (now out) place (now word) len (suc h) f ⌝ }
+    ensures { λ r. ⌜ WalkAdded (now (out .entry)) place (now (word .entry)) len (suc h) f (now (out .exit)) (now (word .exit)) r ⌝ }
 {
-    let mut end = at;
+    let mut end = place;
     let mut e: u16 = 0;
     while e < h + 3 {
         let left = after_event(e, h, f);
@@ -70,18 +70,18 @@ fn branch(out: &mut [u16], at: usize, word: &mut [u16], len: usize, h: u16, f: u
 }
 
 // Ends the word if no edge is pending, and writes it if no label is free either; otherwise pops an edge.
-fn end_or_pop(out: &mut [u16], at: usize, word: &mut [u16], len: usize, h: u16, f: u16) -> usize
-    requires { ⌜ WalkRoom (now out) at (now word) len h f ⌝ }
-    ensures { λ r. ⌜ WalkAdded (now (out .entry)) at (now (word .entry)) len h f (now (out .exit)) (now (word .exit)) r ⌝ }
+fn end_or_pop(out: &mut [u16], place: usize, word: &mut [u16], len: usize, h: u16, f: u16) -> usize
+    requires { ⌜ WalkRoom (now out) place (now word) len h f ⌝ }
+    ensures { λ r. ⌜ WalkAdded (now (out .entry)) place (now (word .entry)) len h f (now (out .exit)) (now (word .exit)) r ⌝ }
 {
     if h == 0 {
         if f == 0 {
-            write(out, at, word, len)
+            write(out, place, word, len)
         } else {
-            at
+            place
         }
     } else {
-        branch(out, at, word, len, h - 1, f)
+        branch(out, place, word, len, h - 1, f)
     }
 }
 

@@ -1,28 +1,18 @@
 -- From what the code found and wrote to the promises of diagram at a position and of position of a diagram.
-use mathlib.Core.Path.{_≡_, sym, _∙_}
+use mathlib.Core.Path.{_≡_}
 use mathlib.Core.Logic.{_⊎_, inl, inr}
 use mathlib.Core.List.{List}
 use Prim.Native.Nat.{ℕ, suc, _≤_, _<_}
 use native.Mathlib.Omega.{arith}
-use lib.ListN.{length, take, replicate, length-append}
-use lib.Seq.{take-at}
+use lib.ListN.{length, replicate}
 use Rattle.lists.specs.Ranges.{OneTo}
 use Rattle.diagrams.specs.Check.{Accepts, Refuses, no-size, no-lengths, no-root, no-blacks, no-whites, no-thrice, no-twice, no-path}
-use Rattle.words.specs.Outputs.{overwrite, Short}
+use Rattle.words.specs.Outputs.{Short}
 use Rattle.words.proofs.Outputs.{not-short, long-enough}
 use Rattle.words.proofs.Shape.{word-length}
 use Rattle.listing.specs.Listing.{count}
 use Rattle.listing.specs.Position.{wordAt}
 use Rattle.listing.proofs.Positions.{at-word}
-
--- ---- a word written over the beginning of a list
-
--- m is the word's length k
-pub over-part : (w a : List ℕ) (m k : ℕ) (b : List ℕ) → m ≡ k → k ≡ length w → b ≡ overwrite w a → take m b ≡ w
-over-part w a m k b d e q = rw q (take-at w _ m (sym (d ∙ e)))
-
-pub over-within : (w a : List ℕ) (m k : ℕ) (b : List ℕ) → m ≡ k → k ≡ length w → b ≡ overwrite w a → m ≤ length b
-over-within w a m k b d e q = rw q (simp length-append (omega arith))
 
 -- ---- the word at a position
 

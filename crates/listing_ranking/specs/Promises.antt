@@ -2,10 +2,10 @@
 -- number and values are those of specs/Answers.
 -- Lists named a are as they were lent, lists named b as they are handed back.
 --
---   CountPromise n answer           the promise of count
---   RefusedAt n p .. number    what diagram at a position refuses: 31, 32, 9
---   DiagramAtPromise n p .. answer        the promise of diagram at a position
---   PositionPromise s0 s1 root answer  the promise of position of a diagram
+--   CountPromise n answer                the promise of count
+--   RefusedAt n p .. number              what diagram at a position refuses: 31, 32, 9
+--   DiagramAtPromise n p .. answer       the promise of diagram at a position
+--   PositionPromise s0 s1 root answer    the promise of position of a diagram
 use mathlib.Core.Path.{_≡_}
 use mathlib.Core.Logic.{_⊎_}
 use mathlib.Core.List.{List}

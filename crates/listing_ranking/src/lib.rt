@@ -1,11 +1,9 @@
-// Count, diagram at a position, position of a diagram. All three go by the table of the ways to go on: the words of a size, in
-// dictionary order, fall into blocks by their first event, and the table says how long each block is.
-mod blocks;
-mod ranking;
-mod unranking;
-
-use labelling_operations::Relabelling;
+// Count, diagram at a position, position of a diagram: the operations over the ranking and unranking of words.
 use diagrams::Diagram;
+use labelling_operations::Relabelling;
+use listing_places::count_of;
+use listing_places::ranking::position_of;
+use listing_places::unranking::word_at;
 use lists::to_index;
 ghost use mathlib.Core.Path.{_≡_};
 ghost use lib.ListN.{length};
@@ -31,19 +29,6 @@ pub enum Place {
     Refused(u16),
 }
 
-// The count of a listed size.
-fn count_of(size: u64) -> u64
-    requires { ⌜ OneTo 50 size ⌝ }
-    ensures { λ r. ⌜ r ≡ count size ⌝ }
-{
-    let n = size as usize;
-    let single = listing_table::ways(1, n - 1);
-    if n < 3 {
-        return single;
-    }
-    single + listing_table::ways(3, n - 3)
-}
-
 // How many words spell a diagram of n edges. Refuses 31, a size outside 1..50.
 pub fn count(n: u64) -> Total
     ensures { λ r. ⌜ CountPromise n r ⌝ }
@@ -63,7 +48,7 @@ fn write_at(n: u64, p: u64, s0: &mut [u16], s1: &mut [u16], word: &mut [u16]) ->
     ensures { λ r. ⌜ (r ≡ length (wordAt n p))
         × Written (diagramAt n p) (wordAt n p) (now (s0 .entry)) (now (s1 .entry)) (now (word .entry)) (now (s0 .exit)) (now (s1 .exit)) (now (word .exit)) ⌝ }
 {
-    let m = unranking::word_at(n, p, word);
+    let m = word_at(n, p, word);
     words_spelling::write_diagram(&word[..m], s0, s1);
     m as u16
 }
@@ -116,7 +101,7 @@ pub fn position(s0: &[u16], s1: &[u16], root: u64) -> Place
         }
         Relabelling::Length(length) => {
             let m = to_index(length);
-            Place::Number(ranking::position_of(s0.len(), &word[..m]))
+            Place::Number(position_of(s0.len(), &word[..m]))
         }
     }
 }

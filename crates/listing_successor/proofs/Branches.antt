@@ -13,7 +13,7 @@ use Rattle.words.specs.Shape.{Word}
 use Rattle.words.proofs.Shape.{word-length}
 use Rattle.listing_successor.specs.Successor.{stateAfterFirst, canEnd, leastEnding, raisedTo, keepOr, firstWord, firstAbove, successor}
 use Rattle.listing_successor.specs.Reading.{Raises}
-use Rattle.listing_successor.proofs.Levels.{start-word}
+use Rattle.listing_successor.proofs.States.{start-word}
 use Rattle.listing_successor.proofs.Endings.{ending-least}
 use Rattle.listing_successor.proofs.Follows.{words-follow, cons-not}
 use Rattle.listing_successor.proofs.Forwards.{rest}
@@ -53,7 +53,7 @@ following-first n [] z = refl
 following-first n (x ∷ w) z = absurd (omega arith)
 
 module _ (n : ℕ) where
-  -- the level after the first item
+  -- the state after the first item
   abbrev height : List ℕ → ℕ
   height w = stateAfterFirst n (getD w 0 0) .height
 

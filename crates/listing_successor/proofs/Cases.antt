@@ -8,19 +8,19 @@ use lib.Dec.{eqb}
 use Rattle.lists.proofs.Tests.{lt-true, lt-false, eqb-ne}
 use Rattle.listing_successor.specs.Successor.{stackState, deadEnd, stateAfterItem, stateAfterFirst, canEnd}
 
-pub level-same : (h h′ f f′ : ℕ) → h ≡ h′ → f ≡ f′ → stackState h f ≡ stackState h′ f′
-level-same h h′ f f′ p q = rw (p, q)
+pub state-same : (h h′ f f′ : ℕ) → h ≡ h′ → f ≡ f′ → stackState h f ≡ stackState h′ f′
+state-same h h′ f f′ p q = rw (p, q)
 
 pub after-W : (h f x : ℕ) → h ≢ 0 → x ≡ 0 → stackState (h - 1) f ≡ stateAfterItem h f x
 after-W zero f x n e = absurd (n refl)
-after-W (suc h) f x n e = rw e (level-same (suc h - 1) h f f (omega arith) refl)
+after-W (suc h) f x n e = rw e (state-same (suc h - 1) h f f (omega arith) refl)
 
 pub after-F : (h f x : ℕ) → h ≢ 0 → x ≡ 1 → 3 ≤ f → stackState (h + 1) (f - 3) ≡ stateAfterItem h f x
 after-F zero f x n e l = absurd (n refl)
 after-F (suc h) zero x n e l = absurd (omega arith)
 after-F (suc h) (suc zero) x n e l = absurd (omega arith)
 after-F (suc h) (suc (suc zero)) x n e l = absurd (omega arith)
-after-F (suc h) (suc (suc (suc f))) x n e l = rw e (level-same (suc h + 1) (suc (suc h)) (suc (suc (suc f)) - 3) f (omega arith) (omega arith))
+after-F (suc h) (suc (suc (suc f))) x n e l = rw e (state-same (suc h + 1) (suc (suc h)) (suc (suc (suc f)) - 3) f (omega arith) (omega arith))
 
 pub after-F-none : (h f x : ℕ) → h ≢ 0 → x ≡ 1 → f < 3 → deadEnd ≡ stateAfterItem h f x
 after-F-none zero f x n e l = absurd (n refl)
@@ -32,7 +32,7 @@ after-F-none (suc h) (suc (suc (suc f))) x n e l = absurd (omega arith)
 pub after-B : (h f x : ℕ) → h ≢ 0 → x ≡ 2 → f ≢ 0 → stackState (h - 1) (f - 1) ≡ stateAfterItem h f x
 after-B zero f x n e m = absurd (n refl)
 after-B (suc h) zero x n e m = absurd (m refl)
-after-B (suc h) (suc f) x n e m = rw e (level-same (suc h - 1) h (suc f - 1) f (omega arith) (omega arith))
+after-B (suc h) (suc f) x n e m = rw e (state-same (suc h - 1) h (suc f - 1) f (omega arith) (omega arith))
 
 pub after-B-none : (h f x : ℕ) → h ≢ 0 → x ≡ 2 → f ≡ 0 → deadEnd ≡ stateAfterItem h f x
 after-B-none zero f x n e z = absurd (n refl)
@@ -45,7 +45,7 @@ module _ (f : ℕ) where
   after-J h (suc (suc zero)) a b c l = absurd (c refl)
   after-J zero (suc (suc (suc d))) a b c l = absurd (omega arith)
   after-J (suc zero) (suc (suc (suc d))) a b c l = absurd (omega arith)
-  after-J (suc (suc h)) (suc (suc (suc d))) a b c l = rw (lt-true d (suc h) (omega arith)) (level-same (suc (suc h) - 2) h f f (omega arith) refl)
+  after-J (suc (suc h)) (suc (suc (suc d))) a b c l = rw (lt-true d (suc h) (omega arith)) (state-same (suc (suc h) - 2) h f f (omega arith) refl)
 
   pub after-J-none : (h x : ℕ) → x ≢ 0 → x ≢ 1 → x ≢ 2 → h - 1 ≤ x - 3 → deadEnd ≡ stateAfterItem h f x
   after-J-none h zero a b c l = absurd (a refl)
@@ -56,13 +56,13 @@ module _ (f : ℕ) where
 
 pub start-U : (n x : ℕ) → x ≡ 0 → n ≢ 0 → stackState 1 (n - 1) ≡ stateAfterFirst n x
 start-U zero x e m = absurd (m refl)
-start-U (suc n) x e m = rw e (level-same 1 1 (suc n - 1) n refl (omega arith))
+start-U (suc n) x e m = rw e (state-same 1 1 (suc n - 1) n refl (omega arith))
 
 pub start-T : (n x : ℕ) → x ≡ 1 → 3 ≤ n → stackState 3 (n - 3) ≡ stateAfterFirst n x
 start-T zero x e l = absurd (omega arith)
 start-T (suc zero) x e l = absurd (omega arith)
 start-T (suc (suc zero)) x e l = absurd (omega arith)
-start-T (suc (suc (suc n))) x e l = rw e (level-same 3 3 (suc (suc (suc n)) - 3) n refl (omega arith))
+start-T (suc (suc (suc n))) x e l = rw e (state-same 3 3 (suc (suc (suc n)) - 3) n refl (omega arith))
 
 pub start-T-none : (n x : ℕ) → x ≡ 1 → n < 3 → deadEnd ≡ stateAfterFirst n x
 start-T-none zero x e l = rw e

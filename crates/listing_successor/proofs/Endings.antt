@@ -10,7 +10,7 @@ use Rattle.words.specs.Shape.{Fits}
 use Rattle.words.proofs.Order.{Compared, before, equal, after, compared}
 use Rattle.listing_successor.specs.Successor as s
 use Rattle.listing_successor.specs.Successor.{canEnd, canEndAfter, leastEvent, leastEndingIn, leastEnding}
-use Rattle.listing_successor.proofs.Levels.{From, fits-after, after-fits, dead, leads-less}
+use Rattle.listing_successor.proofs.States.{From, fits-after, after-fits, dead, leads-less}
 use Rattle.listing_successor.proofs.Events.{Leads, lead-least}
 
 -- v is a way to end, and none comes before it

@@ -1,4 +1,4 @@
--- `leastAbove` and `leastEvent` find the least event that leads to an end: F, B and the first jump are tried in order, and no jump leads on where
+-- `leastAbove` and `leastEvent` find the least event that leads to an end: F, B and the first J are tried in order, and no J leads on where
 -- the first does not.
 use mathlib.Core.Path.{_≡_, refl, sym, _∙_}
 use mathlib.Core.Logic.{_≢_, _⊎_, inl, inr}
@@ -33,7 +33,7 @@ seeks-more t x k e l s = go (lt? x k) (t k) refl
     go (inl a) false q = rw (lt-true x k a, q) (old (λ b. q))
     go (inr a) b q = rw (lt-false x k a) (old (λ c. absurd (omega arith)))
 
--- where a jump leads to no end, no longer one does
+-- where a J leads to no end, no longer one does
 jump-none : (h f j y : ℕ) → 3 ≤ j → j ≤ y → canEndAfter h f j ≡ false → canEndAfter h f y ≡ false
 unfolding canEndAfter
 jump-none zero f j y a b e = refl

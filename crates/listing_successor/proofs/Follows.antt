@@ -10,7 +10,7 @@ use Rattle.words.specs.Order.{Before}
 use Rattle.words.specs.Shape.{Fits, Word}
 use Rattle.listing_successor.specs.declared.StackState.{StackState}
 use Rattle.listing_successor.specs.Successor.{stateAfterItem, stateAfterFirst, canEnd, canEndAfter, leastAbove, leastEnding, raisedTo, keepOr, nextEnding, firstWord, firstAbove, successor}
-use Rattle.listing_successor.proofs.Levels.{From, fits-after, after-fits, word-start, start-word, dead}
+use Rattle.listing_successor.proofs.States.{From, fits-after, after-fits, word-start, start-word, dead}
 use Rattle.listing_successor.proofs.Events.{Seeks, above-least, root-least}
 use Rattle.listing_successor.proofs.Endings.{Ending, ending-least}
 
@@ -23,7 +23,7 @@ pub record Follows (P : List ℕ → Type 0) (w v : List ℕ) : Type 0 where
 pub cons-not : (x : ℕ) (w : List ℕ) → (x ∷ w) ≢ []
 cons-not x w e = let z : _≡_ {A = ℕ} 0 1 = cc in omega arith
 
--- P by the first item: a x is the level after the item x
+-- P by the first item: a x is the state after the item x
 module _ (P : List ℕ → Type 0) (a : ℕ → StackState) (to : (x : ℕ) (w : List ℕ) → P (x ∷ w) → From (a x) w) (from : (x : ℕ) (w : List ℕ) → From (a x) w → P (x ∷ w)) where
   -- the word goes on after x
   further : (x : ℕ) (w v : List ℕ) → v ≢ [] → Follows (From (a x)) w v → Follows P (x ∷ w) (x ∷ v)

@@ -1,4 +1,4 @@
--- Reading a word: what is left of it fits the level reached exactly if the whole fits the level where the reading began.
+-- Reading a word: what is left of it fits the state reached exactly if the whole fits the state where the reading began.
 use mathlib.Core.Path.{_≡_, refl}
 use mathlib.Core.Logic.{_≢_}
 use mathlib.Core.Bool.{true, false}
@@ -14,9 +14,9 @@ use Rattle.lists.proofs.Lists.{rest-is}
 use Rattle.words.specs.Shape.{Fits, Word}
 use Rattle.listing_successor.specs.declared.StackState.{StackState}
 use Rattle.listing_successor.specs.Successor.{stateAfterItem, stateAfterFirst}
-use Rattle.listing_successor.proofs.Levels.{fits-after, after-fits, word-start, start-word, after-small}
+use Rattle.listing_successor.proofs.States.{fits-after, after-fits, word-start, start-word, after-small}
 
--- after i items of w, read from h₀ and f₀ on, the level is h and f
+-- after i items of w, read from h₀ and f₀ on, the state is h and f
 pub record Forth (h₀ f₀ : ℕ) (w : List ℕ) (i h f : ℕ) : Type 0 where
   pub within : i ≤ length w
   pub small : h + f ≤ 50

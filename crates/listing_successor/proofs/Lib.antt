@@ -1,4 +1,4 @@
-pub mod Levels
+pub mod States
 pub mod Events
 pub mod Endings
 pub mod Follows

@@ -15,7 +15,7 @@ use Rattle.listing_successor.specs.declared.Held.{Held}
 use Rattle.listing_successor.specs.declared.Next.{Next}
 use Rattle.listing_successor.specs.Successor.{stateAfterItem, canEnd, canEndAfter, leastEvent, leastEnding, successor, paddedWord, heldWord, sharedWord}
 use Rattle.listing_successor.specs.Promises.{Agree, SuccessorPromise}
-use Rattle.listing_successor.proofs.Levels.{leads-less}
+use Rattle.listing_successor.proofs.States.{leads-less}
 use Rattle.listing_successor.proofs.Events.{Leads, lead-least}
 use Rattle.listing_successor.proofs.Endings.{ending-step, ending-0}
 
@@ -67,7 +67,7 @@ wrote-all p h₀ f₀ items i h f z W = (W .holds ∙ ap paddedWord e, W .long �
     e : W .word ≡ p ++ leastEnding h₀ f₀
     e = rw (z, ending-0, append-nil) at (W .goal)
 
--- a level that ends, with room for the ending
+-- a state that ends, with room for the ending
 pub record Ends (i h f : ℕ) : Type 0 where
   pub ended : canEnd h f ≡ true
   pub small : h + f ≤ 50

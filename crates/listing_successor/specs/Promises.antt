@@ -1,7 +1,7 @@
 -- The word that follows a word, with how far the two agree, so that what was made for the one can be kept for the other as far as that.
 --
---   Agree k v w        the lists v and w begin with the same k items
---   SuccessorPromise n w r     r holds the word that follows w among the words of size n, and w and that word agree in its first `shared` items
+--   Agree k v w               the lists v and w begin with the same k items
+--   SuccessorPromise n w r    r holds the word that follows w among the words of size n, and w and that word agree in its first `shared` items
 use mathlib.Core.Path.{_≡_}
 use mathlib.Core.List.{List}
 use Prim.Native.Nat.{ℕ, _≤_}

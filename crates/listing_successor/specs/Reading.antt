@@ -1,7 +1,7 @@
 -- What the steps of a search promise one another: how a word is read backwards, and which of its items is raised.
 --
---   ReadsTo h f x h′ f′         the item x, read at height h with f labels free, leads to the level h′, f′, from which the word ends
---   Raises h f w ..          raising an item of w gives what follows w: at a place, to an event, which leads to a level; event 0 where w is the last
+--   ReadsTo h f x h′ f′    the item x, read at height h with f labels free, leads to the state h′, f′, from which the word ends
+--   Raises h f w ..        raising an item of w gives what follows w: at a place, to an event, which leads to a state; event 0 where w is the last
 use mathlib.Core.Path.{_≡_}
 use mathlib.Core.Logic.{_≢_}
 use mathlib.Core.Bool.{true}

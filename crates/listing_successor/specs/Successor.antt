@@ -1,20 +1,20 @@
 -- The word that follows a word in dictionary order among the words of its size (document 01, "Run" and the last of "Traps of this
 -- trade"), found from the stack's height and the labels left alone.
 --
---   Level              (declared by the code) how many labels are pending and how many are still free
---   deadEnd              a level that nothing ends: a label is free, and none is pending to reach it from
---   stateAfterItem h f x        the level after the item x, read at height h with f labels free; stuck where x cannot be read there
---   stateAfterFirst n x          the level after the first item x of a word of n edges; stuck where there is none
---   canEnd h f           some items empty a stack of height h just as they use up f labels
---   canEndAfter h f x        the item x can be read there, and some items end the word after it
---   leastAbove h f x        the least event above x that leads to an end; 0 where there is none
---   leastEvent h f           the least event of all that leads to an end
---   leastEnding h f         the least way to end, where there is one
---   nextEnding h f w         the way to end that follows w; [] where w is the last
---   firstWord n            the first word of size n
---   successor n w      the word that follows w among the words of size n: the first after [], and [] after the last
---   paddedWord w, held w   a word in the first places of 51, with zeros after it; the same with its length
---   sharedWord k w        the same with how many items the word before it begins with too
+--   StackState                  (declared by the code) how many labels are pending and how many are still free
+--   deadEnd                     a state that nothing ends: a label is free, and none is pending to reach it from
+--   stateAfterItem h f x        the state after the item x, read at height h with f labels free; the dead end where x cannot be read there
+--   stateAfterFirst n x         the state after the first item x of a word of n edges; the dead end where there is none
+--   canEnd h f                  some items empty a stack of height h just as they use up f labels
+--   canEndAfter h f x           the item x can be read there, and some items end the word after it
+--   leastAbove h f x            the least event above x that leads to an end; 0 where there is none
+--   leastEvent h f              the least event of all that leads to an end
+--   leastEnding h f             the least way to end, where there is one
+--   nextEnding h f w            the way to end that follows w; [] where w is the last
+--   firstWord n                 the first word of size n
+--   successor n w               the word that follows w among the words of size n: the first after [], and [] after the last
+--   paddedWord w, heldWord w    a word in the first places of 51, with zeros after it; the same with its length
+--   sharedWord k w              the same with how many items the word before it begins with too
 -- That these do what they say is `completions-some`, `completions-none`, `next-at` and `following-at` of proofs/Places.antt.
 use mathlib.Core.Bool.{Bool, true, false, cond}
 use mathlib.Core.List.{List, [], _∷_, _++_}
@@ -57,7 +57,7 @@ canEnd (suc (suc h)) f = true
 unfoldable pub canEndAfter : ℕ → ℕ → ℕ → Bool
 canEndAfter h f x = let l = stateAfterItem h f x in canEnd (l .height) (l .free)
 
--- F or B where it lies above x, else the first jump above x: all jumps lead to the same level
+-- F or B where it lies above x, else the first J above x: all J lead to the same state
 abbrev pub joinAbove : ℕ → ℕ
 joinAbove x = cond (ltb x 3) 3 (x + 1)
 

@@ -32,7 +32,7 @@ pub struct Next {
     pub items: [u16; 51],
 }
 
-// An item that can be raised: at `place` the event `event` takes its place and leads to a level. Event 0: no item can.
+// An item that can be raised: at `place` the event `event` takes its place and leads to a state. Event 0: no item can.
 struct Raise {
     place: usize,
     event: u16,
@@ -53,7 +53,7 @@ fn dead_end() -> StackState
     stack_state(0, 1)
 }
 
-// The level after an item.
+// The state after an item.
 fn state_after_item(height: u16, free: u16, item: u16) -> StackState
     requires { ⌜ height + free ≤ 50 ⌝ }
     ensures { λ r. ⌜ r ≡ stateAfterItem height free item ⌝ }
@@ -82,7 +82,7 @@ fn state_after_item(height: u16, free: u16, item: u16) -> StackState
     dead_end()
 }
 
-// The level after the first item, U or T.
+// The state after the first item, U or T.
 fn state_after_first(n: u16, item: u16) -> StackState
     ensures { λ r. ⌜ r ≡ stateAfterFirst n item ⌝ }
 {
@@ -101,7 +101,7 @@ fn state_after_first(n: u16, item: u16) -> StackState
     dead_end()
 }
 
-// Whether some items end the word from a level. Apart from an emptied stack, one pending label with two labels left is the only dead end.
+// Whether some items end the word from a state. Apart from an emptied stack, one pending label with two labels left is the only dead end.
 fn can_end(height: u16, free: u16) -> bool
     ensures { λ r. ⌜ r ≡ canEnd height free ⌝ }
 {
@@ -114,7 +114,7 @@ fn can_end(height: u16, free: u16) -> bool
     true
 }
 
-// Whether an item can be read at a level, and some items end the word after it.
+// Whether an item can be read at a state, and some items end the word after it.
 fn can_end_after(height: u16, free: u16, item: u16) -> bool
     requires { ⌜ height + free ≤ 50 ⌝ }
     ensures { λ r. ⌜ r ≡ canEndAfter height free item ⌝ }
@@ -134,7 +134,7 @@ fn allowed_above(height: u16, free: u16, item: u16, event: u16) -> bool
     false
 }
 
-// The first jump above an item.
+// The first J above an item.
 fn join_above(item: u16) -> u16
     requires { ⌜ item ≤ 51 ⌝ }
     ensures { λ r. ⌜ r ≡ joinAbove item ⌝ }
@@ -145,7 +145,7 @@ fn join_above(item: u16) -> u16
     item + 1
 }
 
-// The least event above an item that leads to an end; 0 where there is none. All jumps lead to the same level, so the first will do.
+// The least event above an item that leads to an end; 0 where there is none. All J lead to the same state, so the first will do.
 fn least_above(height: u16, free: u16, item: u16) -> u16
     requires { ⌜ (height + free ≤ 50) × (item ≤ 51) ⌝ }
     ensures { λ r. ⌜ r ≡ leastAbove height free item ⌝ }
@@ -174,7 +174,7 @@ fn least_event(height: u16, free: u16) -> u16
     least_above(height, free, 0)
 }
 
-// The level at which an item was read, from the level after it.
+// The state at which an item was read, from the state after it.
 fn state_before(height: u16, free: u16, item: u16) -> StackState
     requires { ⌜ (height + free ≤ 50) × ((h f : ℕ) × ReadsTo h f item height free) ⌝ }
     ensures { λ r. ⌜ ((h f : ℕ) → ReadsTo h f item height free → r ≡ stackState h f) ⌝ }
@@ -191,7 +191,7 @@ fn state_before(height: u16, free: u16, item: u16) -> StackState
     stack_state(height + 2, free)
 }
 
-// Whether the items, read from a level on, empty the stack just as they use up the labels.
+// Whether the items, read from a state on, empty the stack just as they use up the labels.
 fn fits(items: &[u16], height: u16, free: u16) -> bool
     requires { ⌜ height + free ≤ 50 ⌝ }
     ensures { λ r. ⌜ ((r ≡ true → Fits height free (now (items .entry))) × (r ≡ false → ¬ Fits height free (now (items .entry)))) ⌝ }
@@ -256,12 +256,12 @@ fn last_raise(items: &[u16]) -> Raise
     }
 }
 
-// Writes the least way to end after the first `at` items, and gives the length of the word.
-fn end_word(items: &mut [u16; 51], at: usize, height: u16, free: u16) -> usize
-    requires { ⌜ ((p : List ℕ) × (now items ≡ paddedWord p) × (at ≡ length p) × (at + length (leastEnding height free) ≤ 51) × (canEnd height free ≡ true) × (height + free ≤ 50)) ⌝ }
-    ensures { λ r. ⌜ ((p : List ℕ) → now (items .entry) ≡ paddedWord p → at ≡ length p → (now (items .exit) ≡ paddedWord (p ++ leastEnding height free)) × (r ≡ length (p ++ leastEnding height free))) ⌝ }
+// Writes the least way to end after the first `place` items, and gives the length of the word.
+fn end_word(items: &mut [u16; 51], place: usize, height: u16, free: u16) -> usize
+    requires { ⌜ ((p : List ℕ) × (now items ≡ paddedWord p) × (place ≡ length p) × (place + length (leastEnding height free) ≤ 51) × (canEnd height free ≡ true) × (height + free ≤ 50)) ⌝ }
+    ensures { λ r. ⌜ ((p : List ℕ) → now (items .entry) ≡ paddedWord p → place ≡ length p → (now (items .exit) ≡ paddedWord (p ++ leastEnding height free)) × (r ≡ length (p ++ leastEnding height free))) ⌝ }
 {
-    let mut i = at;
+    let mut i = place;
     let mut h = height;
     let mut f = free;
     while h != 0 {
@@ -275,14 +275,14 @@ fn end_word(items: &mut [u16; 51], at: usize, height: u16, free: u16) -> usize
     i
 }
 
-// Writes an event after the first `at` items, and the least way to end after it.
-fn append_event(items: &mut [u16; 51], at: usize, event: u16, height: u16, free: u16) -> usize
-    requires { ⌜ ((p : List ℕ) × (now items ≡ paddedWord p) × (at ≡ length p) × (at + 1 + length (leastEnding height free) ≤ 51) × (canEnd height free ≡ true) × (height + free ≤ 50)) ⌝ }
-    ensures { λ r. ⌜ ((p : List ℕ) → now (items .entry) ≡ paddedWord p → at ≡ length p
+// Writes an event after the first `place` items, and the least way to end after it.
+fn append_event(items: &mut [u16; 51], place: usize, event: u16, height: u16, free: u16) -> usize
+    requires { ⌜ ((p : List ℕ) × (now items ≡ paddedWord p) × (place ≡ length p) × (place + 1 + length (leastEnding height free) ≤ 51) × (canEnd height free ≡ true) × (height + free ≤ 50)) ⌝ }
+    ensures { λ r. ⌜ ((p : List ℕ) → now (items .entry) ≡ paddedWord p → place ≡ length p
         → (now (items .exit) ≡ paddedWord (p ++ (event ∷ leastEnding height free))) × (r ≡ length (p ++ (event ∷ leastEnding height free)))) ⌝ }
 {
-    items[at] = event;
-    end_word(items, at + 1, height, free)
+    items[place] = event;
+    end_word(items, place + 1, height, free)
 }
 
 // The least word of a size that begins with U, or with T.

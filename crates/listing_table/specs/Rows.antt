@@ -1,12 +1,12 @@
 -- The numbers of ways to go on, `ways h f` for 3h + f ≤ 56: all that sizes up to 50 need, and no more than 49 bits each.
 -- That they are those numbers is proved by their rule (proofs/Table.antt).
 --
---   row0 .. row18     row h: the ways at a stack of height h with 0, 1, 2, .. labels free; what is left out is 0
---   entry h f         the number in row h for f labels free; 0 where there is none
+--   row0 .. row18        row h: the ways at a stack of height h with 0, 1, 2, .. labels free; what is left out is 0
+--   entry h f            the number in row h for f labels free; 0 where there is none
 --   paddedRow row        the row in 57 places, zeros after its numbers
---   flatRows rows         such rows, padded, one after another
---   lowRows               rows 0 to 5 so: the number for h and f stands at place 57h + f
---   WaysPromise h f r       the promise of the table: r is `ways h f` where 3h + f ≤ 56, and otherwise 0
+--   flatRows rows        such rows, padded, one after another
+--   lowRows              rows 0 to 5 so: the number for h and f stands at place 57h + f
+--   WaysPromise h f r    the promise of the table: r is `ways h f` where 3h + f ≤ 56, and otherwise 0
 use mathlib.Core.Path.{_≡_}
 use mathlib.Core.List.{List, [], _∷_, _++_}
 use Prim.Native.Nat.{ℕ, _+_, _*_, _-_, _≤_, _<_}

@@ -1,4 +1,4 @@
-// The low rows of the table, 0 to 5, which nearly every look-up is for: all in one `match`, so that a look-up is a load with no jump by the height.
+// The low rows of the table, 0 to 5, which nearly every look-up is for: all in one `match`, so that a look-up is a load with no branch on the height.
 ghost use mathlib.Core.Path.{_≡_};
 ghost use lib.ListN.{getD};
 ghost use Rattle.listing_table.specs.Rows.{lowRows};

@@ -1,13 +1,13 @@
 -- Lists of numbers, as all layers use them. An edge is a number from 1 on, and a map of the edges 1..n is a list of n entries.
 --
---   at s i         entry i of s, counted from 1; 0 where there is none
---   put s i v      s with v for entry i
---   tabulate f n     the list f 1, f 2, .., f n
---   Has x l        x stands in l;  has x l, the same as a test
---   Distinct l        no number stands twice in l
---   All P l        P holds of each element of l
---   find x l       the first place of x in l, from 0
---   removeAt d l        l without its element at place d, from 0
+--   at s i          entry i of s, counted from 1; 0 where there is none
+--   put s i v       s with v for entry i
+--   tabulate f n    the list f 1, f 2, .., f n
+--   Has x l         x stands in l;  has x l, the same as a test
+--   Distinct l      no number stands twice in l
+--   All P l         P holds of each element of l
+--   find x l        the first place of x in l, from 0
+--   removeAt d l    l without its element at place d, from 0
 use mathlib.Core.Path.{_≡_}
 use mathlib.Core.Logic.{_⊎_}
 use mathlib.Core.Bool.{Bool, true, false, cond}

@@ -1,9 +1,9 @@
 -- The numbers 1 to n, and what is said of all of them at once.
 --
---   OneTo n x       x is one of 1..n: an edge of a diagram of size n
+--   OneTo n x      x is one of 1..n: an edge of a diagram of size n
 --   every n t      the test t holds at each of 1..n
---   card n t      how many of 1..n pass the test t
---   maximum n t        the largest of t 1, .., t n; 0 where n is 0
+--   card n t       how many of 1..n pass the test t
+--   maximum n t    the largest of t 1, .., t n; 0 where n is 0
 --   down n         the list n, .., 2, 1
 use mathlib.Core.Bool.{Bool, true, false, cond}
 use mathlib.Core.List.{List, [], _∷_}

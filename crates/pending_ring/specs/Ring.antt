@@ -1,8 +1,8 @@
 -- The pending edges as a doubly linked ring with the sentinel 0 (document 01, "Labelling and words"): two arrays of 1,025 links.
 -- The stack of pending labels, its top first, is an ordinary list; the arrays hold it.
 --
---   Linked nx pv a s b     the links lead from a through the list s to b, and back
---   Ring nx pv s           the arrays hold the stack s: linked from the sentinel round to the sentinel, labels 1 to 1,024, none twice
+--   Linked nx pv a s b   the links lead from a through the list s to b, and back
+--   Ring nx pv s         the arrays hold the stack s: linked from the sentinel round to the sentinel, labels 1 to 1,024, none twice
 use mathlib.Core.Path.{_≡_}
 use mathlib.Core.List.{List, [], _∷_}
 use Prim.Native.Nat.{ℕ, _<_}

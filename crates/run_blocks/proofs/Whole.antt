@@ -7,8 +7,8 @@ use lib.ListN.{length, drop}
 use Rattle.listing.specs.Listing.{count}
 use Rattle.run_steps.specs.declared.Run.{Run}
 use Rattle.run_steps.proofs.Standing.{stands-size}
-use Rattle.run_blocks.specs.Rows.{blacks, whites, flatWords, lengths}
-use Rattle.run_blocks.specs.Filling.{BlockHeld, MarksWritten}
+use Rattle.run_row.specs.Rows.{blacks, whites, flatWords, lengths}
+use Rattle.run_marks.specs.Marks.{BlockHeld, MarksWritten}
 use Rattle.run_blocks.specs.Promises.{RunAfterRows, RowsGiven, MarkedRowsGiven, ListPromise, ListMarkedPromise}
 use Rattle.run_blocks.specs.declared.Listing.the-variants.{Rows}
 

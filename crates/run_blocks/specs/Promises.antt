@@ -1,46 +1,24 @@
 -- What a listing in blocks promises, by the cases of its answer: it writes what as many steps of the run would write (document 01, "Run"), one
 -- diagram after another, and leaves the run as they would. Lists named a are as they were lent, lists named b as they are handed back.
 --
---   runOf n stage len items   the run of these fields
---   ShortRows n rows ..       an output list is short for that many diagrams of n edges: rows · n, rows · n, rows · (n + 1), rows (refusal 9)
---   Block n p k ..            the lists hold the k diagrams after position p, and after them what they held
---   RunAfterRows n p rows k next    k is how many of the rows asked for the list still has after position p, and next is the run after them
---   NoRows ..                 the run is finished: no rows
---   RowsGiven ..                   the run is not: the rows, and the run after them
---   RefusedList ..            34: the run is neither fresh, nor at a diagram, nor finished; 9: it is not finished, and an output list is short
---   ListPromise run rows ..         the promise of `list`
---   MarkedRowsGiven ..             the rows, and their keep marks
---   ListMarkedPromise run rows ..   the promise of `list_marked`
+--   NoRows ..                        the run is finished: no rows
+--   RefusedList ..                   34: the run is neither fresh, nor at a diagram, nor finished; 9: it is not finished, and an output list is short
+--   ListPromise run rows ..          the promise of `list`
+--   MarkedRowsGiven ..               the rows, and their keep marks
+--   ListMarkedPromise run rows ..    the promise of `list_marked`
+-- and from run_rows: ShortRows, Block, RunAfterRows, RowsGiven.
 use mathlib.Core.Path.{_≡_}
 use mathlib.Core.Logic.{_⊎_}
 use mathlib.Core.List.{List}
-use Prim.Native.Nat.{ℕ, suc, _+_, _*_, _≤_, _<_}
+use Prim.Native.Nat.{ℕ, _≤_, _<_}
 use lib.ListN.{length}
-use Rattle.words.specs.Outputs.{overwrite}
-use Rattle.listing.specs.Listing.{count}
 use Rattle.run_steps.specs.declared.Run.{Run}
-use Rattle.run_steps.specs.Promises.{runAfter, finished, RunAt, RunFinished}
+use Rattle.run_steps.specs.Promises.{RunAt, RunFinished}
 use Rattle.run_blocks.specs.declared.Listing.{Listing}
 use Rattle.run_blocks.specs.declared.Listing.the-variants as listing
 use Rattle.run_blocks.specs.Answers.{list-number, list-rows}
-use Rattle.run_blocks.specs.Rows.{blacks, whites, flatWords, lengths}
-use Rattle.run_blocks.specs.Filling.{MarksWritten}
-
-abbrev pub runOf : ℕ → ℕ → ℕ → List ℕ → Run
-runOf n stage len items = record { size = n; stage = stage; length = len; items = items }
-
-abbrev pub ShortRows : ℕ → ℕ → List ℕ → List ℕ → List ℕ → List ℕ → Type 0
-ShortRows n rows a0 a1 aw al = (length a0 < rows * n) ⊎ ((length a1 < rows * n) ⊎ ((length aw < rows * suc n) ⊎ (length al < rows)))
-
-pub record Block (n p k : ℕ) (a0 a1 aw al b0 b1 bw bl : List ℕ) : Type 0 where
-  pub s0-written : b0 ≡ overwrite (blacks n p k) a0
-  pub s1-written : b1 ≡ overwrite (whites n p k) a1
-  pub words-written : bw ≡ overwrite (flatWords n p k) aw
-  pub lengths-written : bl ≡ overwrite (lengths n p k) al
-
--- all the rows asked for, or all that are left: then the run is finished
-abbrev pub RunAfterRows : ℕ → ℕ → ℕ → ℕ → Run → Type 0
-RunAfterRows n p rows k next = ((k ≡ rows) × (p + k ≤ count n) × (next ≡ runAfter n (p + k))) ⊎ ((k < rows) × (p + k ≡ count n) × (next ≡ finished n))
+use Rattle.run_marks.specs.Marks.{MarksWritten}
+pub use Rattle.run_rows.specs.Promises.{ShortRows, Block, RunAfterRows, RowsGiven}
 
 pub record ListsUntouched (a0 a1 aw al b0 b1 bw bl : List ℕ) : Type 0 where
   pub s0-same : b0 ≡ a0
@@ -51,15 +29,6 @@ pub record ListsUntouched (a0 a1 aw al b0 b1 bw bl : List ℕ) : Type 0 where
 -- a run that is finished answers no rows, and all stays as it was
 abbrev pub NoRows : Run → ℕ → Run → List ℕ → List ℕ → List ℕ → List ℕ → List ℕ → List ℕ → List ℕ → List ℕ → Type 0
 NoRows run k next a0 a1 aw al b0 b1 bw bl = ((n : ℕ) × RunFinished n run) × (k ≡ 0) × (next ≡ run) × ListsUntouched a0 a1 aw al b0 b1 bw bl
-
--- the rows of a run that is not finished
-pub record RowsGiven (run : Run) (rows k : ℕ) (next : Run) (a0 a1 aw al b0 b1 bw bl : List ℕ) : Type 0 where
-  pub size : ℕ
-  pub place : ℕ
-  pub stands : RunAt size place run
-  pub roomy : ¬ ShortRows size rows a0 a1 aw al
-  pub leaves : RunAfterRows size place rows k next
-  pub written : Block size place k a0 a1 aw al b0 b1 bw bl
 
 -- Short n says that an output list is short at size n
 abbrev pub RefusedList : Run → (ℕ → Type 0) → ℕ → Type 0

@@ -1,8 +1,8 @@
 -- The answers of a run's beginning and step, as document 01 numbers them: a number is 01's of the refusal, 0 where the call is
 -- accepted; a value is the answer's own, or `old` where the answer has no such value.
 --
---   begin-number answer      31, or 0
---   step-number answer       34 or 9, or 0;  step-length, the word's length, 0 for "end"
+--   begin-number answer    31, or 0
+--   step-number answer     34 or 9, or 0;  step-length, the word's length, 0 for "end"
 use Prim.Native.Nat.{ℕ}
 use Rattle.run_steps.specs.declared.Beginning.{Beginning}
 use Rattle.run_steps.specs.declared.Beginning.the-variants as beginning

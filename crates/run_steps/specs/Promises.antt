@@ -1,11 +1,11 @@
 -- What the beginning and the step of a run promise (document 01, "Run"), by the cases of their answers, whose
--- number and values are those of specs/Answers.
+-- number and values are those of specs/Answers. A run is an iterator over the list of a size, with a state that can be stored.
 -- Lists named a are as they were lent, lists named b as they are handed back.
 --
---   blank                 the run of no size, all zeros: what a refused beginning hands back
---   fresh n, at n w, finished n     the runs of size n: before the first diagram, at the diagram of the word w, after the last
---   runAfter n p             the run of size n that has given p diagrams: fresh, or at the p-th
---   RunAt n p run        it is that run, of a size 1..50
+--   blank                              the run of no size, all zeros: what a refused beginning hands back
+--   fresh n, atWord n w, finished n    the runs of size n: before the first diagram, at the diagram of the word w, after the last
+--   runAfter n p                       the run of size n that has given p diagrams: fresh, or at the p-th
+--   RunAt n p run                      it is that run, of a size 1..50
 use mathlib.Core.Path.{_≡_}
 use mathlib.Core.Logic.{_⊎_}
 use mathlib.Core.List.{List, [], _++_}

@@ -1,8 +1,8 @@
 -- What makes a run sound (document 01, refusal 34), said of its fields alone.
 --
---   Staged stage n w      the word w goes with the stage: a word of n edges with 1, at a diagram, and [] with 0, fresh, and 2, finished
---   SoundRun run             the run is fresh, at a diagram of its size, or finished; `word` is the word it is at, [] where there is none
---   StepGives size w ..       a step that gives the diagram of w: its answer, the run it leaves, and the lists before and after
+--   Staged stage n w       the word w goes with the stage: a word of n edges with 1, at a diagram, and [] with 0, fresh, and 2, finished
+--   SoundRun run           the run is fresh, at a diagram of its size, or finished; `word` is the word it is at, [] where there is none
+--   StepGives size w ..    a step that gives the diagram of w: its answer, the run it leaves, and the lists before and after
 use mathlib.Core.Path.{_≡_}
 use mathlib.Core.Logic.{_⊎_}
 use mathlib.Core.List.{List, []}

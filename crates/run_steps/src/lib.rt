@@ -1,10 +1,10 @@
 // A run: the diagrams of a size one after another, each found from the one before. Beginning refuses 31. A step refuses 34, a run that
 // is neither fresh, nor at a diagram, nor finished; a finished run answers "end"; then 9, an output list that is short.
 use diagrams::Diagram;
-use lists::fill;
 use listing_successor::Held;
-use listing_successor::successor_word;
 use listing_successor::is_word;
+use listing_successor::successor_word;
+use lists::fill;
 use words_spelling::write_diagram;
 ghost use mathlib.Core.Path.{_≡_};
 ghost use mathlib.Core.Logic.{_⊎_};

@@ -30,8 +30,8 @@ use Rattle.words_reading.proofs.Spelling.{spell-read, read-spell, read-size}
 use Rattle.labelling.specs.Labelling.{wordOf, characteristic}
 use Rattle.labelling.specs.Rootings.{leastWord, Kept, symmetries}
 use Rattle.labelling.proofs.Ended.{label-ends}
-use Rattle.labelling.proofs.OfLists.{labels-carry, characteristic-accepted, characteristic-size, characteristic-alike, word-spelled, word-of-size, alike-words, words-alike, words-results, results-alike, spelled-wordOf, spelled-accepted, spelled-characteristic}
-use Rattle.labelling.proofs.Rootings.{accepts-rerooted, LeastOf, least-word, kept-least, least-kept, rooting-alike, alike-rooting, alike-least, least-alike}
+use Rattle.labelling.proofs.OfLists.{labels-carry, characteristic-accepted, characteristic-size, characteristic-isomorphic, word-spelled, word-of-size, isomorphic-words, words-isomorphic, words-results, results-isomorphic, spelled-wordOf, spelled-accepted, spelled-characteristic}
+use Rattle.labelling.proofs.Rootings.{accepts-rerooted, LeastOf, least-word, kept-least, least-kept, rooting-isomorphic, isomorphic-rooting, isomorphic-least, least-isomorphic}
 use Rattle.labelling_operations.specs.declared.Comparison.{Comparison}
 use Rattle.labelling_operations.specs.declared.Comparison.the-variants as comparison
 use Rattle.labelling_operations.specs.declared.Symmetry.the-variants as symmetry
@@ -40,7 +40,7 @@ use Rattle.listing.specs.Listing.{listing, count}
 use Rattle.listing.specs.Position.{wordAt, position}
 use Rattle.listing.specs.Diagrams.{diagramAt}
 use Rattle.listing.proofs.Positions.{position-at}
-use Rattle.listing.proofs.InPlace.{at-spells, at-size, at-wordOf, position-alike}
+use Rattle.listing.proofs.InPlace.{at-spells, at-size, at-wordOf, position-isomorphic}
 use Rattle.listing_ranking.specs.declared.Total.the-variants as total
 use Rattle.listing_ranking.specs.declared.Place.the-variants as place
 use Rattle.listing_ranking.specs.Promises.{CountPromise, PositionPromise}
@@ -54,13 +54,13 @@ result-isomorphic s0 s1 root A = record {
   ends = λ m l. label-ends (length s0) (at s0) (at s1) (accepts-rooted s0 s1 root .0 A .1 .diagram .maps) root (A .root-in) m l;
   labels-carry = labels-carry s0 s1 root A;
   accepted = characteristic-accepted s0 s1 root A;
-  joined = characteristic-alike s0 s1 root A;
+  joined = characteristic-isomorphic s0 s1 root A;
 }
 
 equal-exactly : (s0 s1 : List ℕ) (r : ℕ) → Accepts s0 s1 r → (t0 t1 : List ℕ) (q : ℕ) → Accepts t0 t1 q → EqualExactly s0 s1 r t0 t1 q
 equal-exactly s0 s1 r A t0 t1 q B = record {
-  results = (results-alike s0 s1 r A t0 t1 q B, λ i. words-results s0 s1 r A t0 t1 q B (alike-words s0 s1 r A t0 t1 q B i));
-  words = (words-alike s0 s1 r A t0 t1 q B, alike-words s0 s1 r A t0 t1 q B);
+  results = (results-isomorphic s0 s1 r A t0 t1 q B, λ i. words-results s0 s1 r A t0 t1 q B (isomorphic-words s0 s1 r A t0 t1 q B i));
+  words = (words-isomorphic s0 s1 r A t0 t1 q B, isomorphic-words s0 s1 r A t0 t1 q B);
 }
 
 -- a word of a diagram of at most 1,024 edges has at most 1,025 items, and is read
@@ -83,13 +83,13 @@ labels-back w D e = record { word = spelled-wordOf w D e; result = spelled-chara
 
 unrooted-exactly : (s0 s1 : List ℕ) (r : ℕ) → Accepts s0 s1 r → (t0 t1 : List ℕ) (q : ℕ) → Accepts t0 t1 q → UnrootedExactly s0 s1 t0 t1 q
 unrooted-exactly s0 s1 r A t0 t1 q B = record {
-  rootings = (alike-rooting s0 s1 r A t0 t1 q B, λ x. rooting-alike s0 s1 r A t0 t1 q B (x .0) (x .1) (x .2));
-  leasts = (alike-least s0 s1 r A t0 t1 q B, least-alike s0 s1 r A t0 t1 q B);
+  rootings = (isomorphic-rooting s0 s1 r A t0 t1 q B, λ x. rooting-isomorphic s0 s1 r A t0 t1 q B (x .0) (x .1) (x .2));
+  leasts = (isomorphic-least s0 s1 r A t0 t1 q B, least-isomorphic s0 s1 r A t0 t1 q B);
 }
 
 -- the kept one is the characteristic labelling of a least rooting
 pub kept-once : (D : Pair) → Characteristic D → KeptOnce D
-kept-once D C = record { kept = K; in-form = record { accepted = form; relabelled = again }; alike = joined; is-kept = kept; only = only }
+kept-once D C = record { kept = K; in-form = record { accepted = form; relabelled = again }; isomorphic = joined; is-kept = kept; only = only }
   where
     d0 : List ℕ
     d0 = D .black
@@ -119,10 +119,10 @@ kept-once D C = record { kept = K; in-form = record { accepted = form; relabelle
     again = spelled-characteristic (wordOf d0 d1 r) K (word-spelled d0 d1 r B)
 
     joined : Isomorphic d0 d1 (K .black) (K .white)
-    joined = root-isomorphic-isomorphic (characteristic-alike d0 d1 r B)
+    joined = root-isomorphic-isomorphic (characteristic-isomorphic d0 d1 r B)
 
     word : wordOf (K .black) (K .white) 1 ≡ leastWord (K .black) (K .white)
-    word = spelled-wordOf (wordOf d0 d1 r) K (word-spelled d0 d1 r B) ∙ sym (L .is) ∙ alike-least d0 d1 1 A (K .black) (K .white) 1 form joined
+    word = spelled-wordOf (wordOf d0 d1 r) K (word-spelled d0 d1 r B) ∙ sym (L .is) ∙ isomorphic-least d0 d1 1 A (K .black) (K .white) 1 form joined
 
     kept : Kept (K .black) (K .white) 1
     kept = least-kept (K .black) (K .white) 1 (form .root-in) word
@@ -131,7 +131,7 @@ kept-once D C = record { kept = K; in-form = record { accepted = form; relabelle
     only E c i k =
         sym (c .relabelled)
         ∙ words-results (E .black) (E .white) 1 (c .accepted) (K .black) (K .white) 1 form
-        (kept-least (E .black) (E .white) 1 (c .accepted .root-in) k ∙ sym (alike-least d0 d1 1 A (E .black) (E .white) 1 (c .accepted) i) ∙ alike-least d0 d1 1 A (K .black) (K .white) 1 form joined ∙ sym word)
+        (kept-least (E .black) (E .white) 1 (c .accepted .root-in) k ∙ sym (isomorphic-least d0 d1 1 A (E .black) (E .white) 1 (c .accepted) i) ∙ isomorphic-least d0 d1 1 A (K .black) (K .white) 1 form joined ∙ sym word)
         ∙ again
 
 -- ---- what the operations hand back
@@ -222,7 +222,7 @@ relabels s0 s1 root O m C =
     let e = relabelled-front s0 s1 root A O m C in
     record {
       hands-back = hands-back (wordOf s0 s1 root) (characteristic s0 s1 root) (word-spelled s0 s1 root A) (fits s0 s1 root A) (length s0) (characteristic-size s0 s1 root A) O (C .3) m (C .2);
-      joined = rw (ap (λ (D : Pair). D .black) e, ap (λ (D : Pair). D .white) e) (characteristic-alike s0 s1 root A);
+      joined = rw (ap (λ (D : Pair). D .black) e, ap (λ (D : Pair). D .white) e) (characteristic-isomorphic s0 s1 root A);
       reads-back = rw (relabelled-items s0 s1 root A O m C, ap (λ (D : Pair). D .black) e, ap (λ (D : Pair). D .white) e) (reads-spelled (wordOf s0 s1 root) (characteristic s0 s1 root) (word-spelled s0 s1 root A) (fits s0 s1 root A));
     }
 
@@ -289,13 +289,13 @@ module _ (s0 s1 : List ℕ) (r : ℕ) (A : Accepts s0 s1 r) (t0 t1 : List ℕ) (
   different e = let z : _≡_ {A = ℕ} 0 1 = cc in omega arith
 
   with-roots : (a : Comparison) → CompareRootedPromise s0 s1 r t0 t1 q a → (a ≡ comparison.Same) ↔ (wordOf s0 s1 r ≡ wordOf t0 t1 q)
-  with-roots comparison.Same c = (λ e. alike-words s0 s1 r A t0 t1 q B (c .2), λ w. refl)
-  with-roots comparison.Different c = (λ e. absurd (different e), λ w. absurd (c .2 (words-alike s0 s1 r A t0 t1 q B w)))
+  with-roots comparison.Same c = (λ e. isomorphic-words s0 s1 r A t0 t1 q B (c .2), λ w. refl)
+  with-roots comparison.Different c = (λ e. absurd (different e), λ w. absurd (c .2 (words-isomorphic s0 s1 r A t0 t1 q B w)))
   with-roots (comparison.Refused k side) c = absurd (no-side k side c)
 
   without-roots : (a : Comparison) → CompareUnrootedPromise s0 s1 r t0 t1 q a → (a ≡ comparison.Same) ↔ (leastWord s0 s1 ≡ leastWord t0 t1)
-  without-roots comparison.Same c = (λ e. alike-least s0 s1 r A t0 t1 q B (c .2), λ w. refl)
-  without-roots comparison.Different c = (λ e. absurd (different e), λ w. absurd (c .2 (least-alike s0 s1 r A t0 t1 q B w)))
+  without-roots comparison.Same c = (λ e. isomorphic-least s0 s1 r A t0 t1 q B (c .2), λ w. refl)
+  without-roots comparison.Different c = (λ e. absurd (different e), λ w. absurd (c .2 (least-isomorphic s0 s1 r A t0 t1 q B w)))
   without-roots (comparison.Refused k side) c = absurd (no-side k side c)
 
   compares : CompareHolds s0 s1 r t0 t1 q
@@ -308,8 +308,8 @@ symmetric s0 s1 root m (A, e) = rw e (counted (length s0) (λ x. same (wordOf s0
     exactly : (x : ℕ) → OneTo (length s0) x → (same (wordOf s0 s1 x) (wordOf s0 s1 root) ≡ true) ↔ RootedIsomorphic s0 s1 root s0 s1 x
     exactly x i =
         let B = accepts-rerooted s0 s1 root A x i in (
-          λ t. words-alike s0 s1 root A s0 s1 x B (sym (same-true (wordOf s0 s1 x) (wordOf s0 s1 root) t)),
-          λ a. rw (alike-words s0 s1 root A s0 s1 x B a) (same-self (wordOf s0 s1 x)),
+          λ t. words-isomorphic s0 s1 root A s0 s1 x B (sym (same-true (wordOf s0 s1 x) (wordOf s0 s1 root) t)),
+          λ a. rw (isomorphic-words s0 s1 root A s0 s1 x B a) (same-self (wordOf s0 s1 x)),
         )
 
 -- ---- positions
@@ -334,7 +334,7 @@ at-position : (s0 s1 : List ℕ) (root p : ℕ) → PositionPromise s0 s1 root (
     → RootedIsomorphic s0 s1 root (front (length s0) O .black) (front (length s0) O .white) 1
 at-position s0 s1 root p L O m G =
     let e = given-front (length s0) p O m G in
-    rw (ap (λ (D : Pair). D .black) e, ap (λ (D : Pair). D .white) e, L .2) (position-alike s0 s1 root (L .0))
+    rw (ap (λ (D : Pair). D .black) e, ap (λ (D : Pair). D .white) e, L .2) (position-isomorphic s0 s1 root (L .0))
 
 counted-listing : (n k : ℕ) → CountPromise n (total.Number k) → k ≡ length (listing n)
 unfolding count

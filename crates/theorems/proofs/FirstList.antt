@@ -15,12 +15,12 @@ use Rattle.diagrams.specs.Isomorphism.{RootedIsomorphic}
 use Rattle.diagrams.specs.Check.{Accepts}
 use Rattle.words.specs.Outputs.{overwrite, Written}
 use Rattle.labelling.specs.Labelling.{wordOf}
-use Rattle.labelling.proofs.OfLists.{alike-words}
+use Rattle.labelling.proofs.OfLists.{isomorphic-words}
 use Rattle.listing.specs.Listing.{count}
 use Rattle.listing.specs.Position.{wordAt, position}
 use Rattle.listing.specs.Diagrams.{diagramAt}
 use Rattle.listing.proofs.Positions.{at-once}
-use Rattle.listing.proofs.InPlace.{at-size, at-wordOf, at-characteristic, at-accepted, position-counted, position-alike, position-only}
+use Rattle.listing.proofs.InPlace.{at-size, at-wordOf, at-characteristic, at-accepted, position-counted, position-isomorphic, position-only}
 use Rattle.book.specs.declared.types.Book.{Book}
 use Rattle.book.specs.declared.types.Opening.the-variants.{Opened}
 use Rattle.book.specs.declared.types.Taking.the-variants.{Given}
@@ -68,13 +68,13 @@ module _ (n : ℕ) (N : OneTo 50 n) where
   class-once p q e f i =
       at-once n p q e f
       (sym (at-wordOf n p e)
-      ∙ alike-words (diagramAt n p .black) (diagramAt n p .white) 1 (at-accepted n p e (omega arith)) (diagramAt n q .black) (diagramAt n q .white) 1 (at-accepted n q f (omega arith)) i
+      ∙ isomorphic-words (diagramAt n p .black) (diagramAt n p .white) 1 (at-accepted n p e (omega arith)) (diagramAt n q .black) (diagramAt n q .white) 1 (at-accepted n q f (omega arith)) i
       ∙ at-wordOf n q f)
 
 -- a rooted diagram of size n is at exactly one position
 pub placed-once : (n : ℕ) (s0 s1 : List ℕ) (root : ℕ) → Accepts s0 s1 root → length s0 ≡ n → n ≤ 1024
     → OneTo (count n) (position n (wordOf s0 s1 root)) × IsAt n s0 s1 root (position n (wordOf s0 s1 root)) × ((q : ℕ) → OneTo (count n) q → IsAt n s0 s1 root q → q ≡ position n (wordOf s0 s1 root))
-placed-once n s0 s1 root A l h = rw (← l) (position-counted s0 s1 root A, position-alike s0 s1 root A, λ q e i. position-only s0 s1 root A q e (rw l h) i)
+placed-once n s0 s1 root A l h = rw (← l) (position-counted s0 s1 root A, position-isomorphic s0 s1 root A, λ q e i. position-only s0 s1 root A q e (rw l h) i)
 
 -- ---- an accepted open
 

@@ -17,7 +17,7 @@ use Rattle.invariants_cycles.specs.Cycles as spec
 use Rattle.invariants_cycles.specs.Cycles.{Permutation, SameCycle, leastOfCycle, period, cycles, longest, fixedPoints, cuspMap}
 use Rattle.invariants_cycles.proofs.Cardinals.{top-over}
 use Rattle.invariants_cycles.proofs.Cycles as laws
-use Rattle.invariants_cycles.proofs.InvariantsIsomorphic.{invariants-alike}
+use Rattle.invariants_cycles.proofs.InvariantsIsomorphic.{invariants-isomorphic}
 use Rattle.invariants.specs.declared.Numbers.{Numbers}
 use Rattle.invariants.specs.declared.Measured.the-variants.{Known}
 use Rattle.invariants.specs.Promises.{Invariants, InvariantsPromise}
@@ -25,9 +25,9 @@ use Rattle.invariants.proofs.Differences.{t-of}
 use Rattle.theorems.specs.Listing.{ExactlyOne}
 use Rattle.theorems.specs.Invariants.{Counts, LeastReturn, Lowest, CyclesHold, Means, InvariantsHold}
 
--- ---- a tally, and the largest of some numbers
+-- ---- how many pass a test, and the largest of some numbers
 
--- what passes a test is counted by its tally
+-- what passes a test is counted by `card`
 pub counted : (n : ℕ) (t : ℕ → Bool) (P : ℕ → Type 0) → ((x : ℕ) → OneTo n x → (t x ≡ true) ↔ P x) → Counts n P (card n t)
 counted zero t P k = record { those = []; once = tt; exactly = λ x. (λ h. absurd h, λ h. (let i = h .0 in absurd (omega arith))); number = refl }
 counted (suc n) t P k = go (t (suc n)) refl (counted n t P (λ x e. k x (omega arith)))
@@ -151,9 +151,9 @@ measured s0 s1 root x (A, I) = record {
     C : CyclesHold n φ
     C = cycles-of (permutes s0 s1 root A)
 
-alike-same : (s0 s1 : List ℕ) (r : ℕ) → Accepts s0 s1 r → (t0 t1 : List ℕ) → Isomorphic s0 s1 t0 t1 → (x : Numbers) → Invariants s0 s1 x → Invariants t0 t1 x
-alike-same s0 s1 r A t0 t1 i x I =
-    let S = invariants-alike (accepts-diagram s0 s1 r A .maps) i in
+isomorphic-same : (s0 s1 : List ℕ) (r : ℕ) → Accepts s0 s1 r → (t0 t1 : List ℕ) → Isomorphic s0 s1 t0 t1 → (x : Numbers) → Invariants s0 s1 x → Invariants t0 t1 x
+isomorphic-same s0 s1 r A t0 t1 i x I =
+    let S = invariants-isomorphic (accepts-diagram s0 s1 r A .maps) i in
     record {
       e2-is = I .e2-is ∙ S .e2-same;
       e3-is = I .e3-is ∙ S .e3-same;
@@ -168,8 +168,8 @@ numbers-same s0 s1 x y I J =
     let z : _≡_ {A = Numbers} record { e2 = x .e2; e3 = x .e3; c = x .c; t = x .t; level = x .level } record { e2 = y .e2; e3 = y .e3; c = y .c; t = y .t; level = y .level } = cc in
     z
 
-alike-measured : (s0 s1 : List ℕ) (r : ℕ) (x : Numbers) → InvariantsPromise s0 s1 r (Known x) → (t0 t1 : List ℕ) (q : ℕ) (y : Numbers) → InvariantsPromise t0 t1 q (Known y) → Isomorphic s0 s1 t0 t1 → x ≡ y
-alike-measured s0 s1 r x (A, I) t0 t1 q y (B, J) i = numbers-same t0 t1 x y (alike-same s0 s1 r A t0 t1 i x I) J
+isomorphic-measured : (s0 s1 : List ℕ) (r : ℕ) (x : Numbers) → InvariantsPromise s0 s1 r (Known x) → (t0 t1 : List ℕ) (q : ℕ) (y : Numbers) → InvariantsPromise t0 t1 q (Known y) → Isomorphic s0 s1 t0 t1 → x ≡ y
+isomorphic-measured s0 s1 r x (A, I) t0 t1 q y (B, J) i = numbers-same t0 t1 x y (isomorphic-same s0 s1 r A t0 t1 i x I) J
 
 pub invariants-hold : InvariantsHold
-invariants-hold = record { permutes = permutes; cycles-of = λ n φ p. cycles-of p; measured = measured; alike-same = alike-same; alike-measured = alike-measured }
+invariants-hold = record { permutes = permutes; cycles-of = λ n φ p. cycles-of p; measured = measured; isomorphic-same = isomorphic-same; isomorphic-measured = isomorphic-measured }

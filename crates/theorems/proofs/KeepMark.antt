@@ -13,7 +13,7 @@ use Rattle.diagrams.proofs.Isomorphisms.{isomorphic-sym, isomorphic-trans, root
 use Rattle.words.specs.Word.{Pair}
 use Rattle.labelling.specs.Labelling.{wordOf, characteristic}
 use Rattle.labelling.specs.Rootings.{Kept}
-use Rattle.labelling.proofs.OfLists.{characteristic-accepted, characteristic-alike, word-spelled, spelled-characteristic}
+use Rattle.labelling.proofs.OfLists.{characteristic-accepted, characteristic-isomorphic, word-spelled, spelled-characteristic}
 use Rattle.listing.specs.Listing.{count}
 use Rattle.listing.specs.Position.{position}
 use Rattle.listing.specs.Diagrams.{diagramAt}
@@ -47,7 +47,7 @@ module _ (n : ℕ) (N : OneTo 50 n) (s0 s1 : List ℕ) (root : ℕ) (A : Accepts
   R = characteristic s0 s1 root
 
   joined : Isomorphic s0 s1 (R .black) (R .white)
-  joined = root-isomorphic-isomorphic (characteristic-alike s0 s1 root A)
+  joined = root-isomorphic-isomorphic (characteristic-isomorphic s0 s1 root A)
 
   once : KeptOnce R
   once = kept-once R record { accepted = characteristic-accepted s0 s1 root A; relabelled = spelled-characteristic (wordOf s0 s1 root) R (word-spelled s0 s1 root A) }
@@ -55,11 +55,11 @@ module _ (n : ℕ) (N : OneTo 50 n) (s0 s1 : List ℕ) (root : ℕ) (A : Accepts
   abbrev K : Pair
   K = once .kept
 
-  alike : Isomorphic s0 s1 (K .black) (K .white)
-  alike = isomorphic-trans joined (once .alike)
+  isomorphic : Isomorphic s0 s1 (K .black) (K .white)
+  isomorphic = isomorphic-trans joined (once .isomorphic)
 
   sized : length (K .black) ≡ n
-  sized = sym (alike .sizes) ∙ l
+  sized = sym (isomorphic .sizes) ∙ l
 
   -- it stands at the position of its word
   abbrev p : ℕ
@@ -83,7 +83,7 @@ module _ (n : ℕ) (N : OneTo 50 n) (s0 s1 : List ℕ) (root : ℕ) (A : Accepts
   marked-once : MarkedOnce n s0 s1
   marked-once = record {
     position = p;
-    in-class = (counted, rw there alike);
+    in-class = (counted, rw there isomorphic);
     yes = rw there (once .in-form .accepted, once .is-kept);
     nothing-else = only-yes (diagramAt n p .black) (diagramAt n p .white) 1 (accepted p counted) (rw there (once .is-kept));
     only = only;

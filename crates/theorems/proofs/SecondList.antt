@@ -23,7 +23,7 @@ use Rattle.run_steps.specs.declared.Run.{Run}
 use Rattle.run_steps.specs.declared.Stepping.{Stepping}
 use Rattle.run_steps.specs.declared.Stepping.the-variants.{Length, End, Refused}
 use Rattle.run_steps.specs.Promises.{fresh, finished, runAfter, RunAt, RunFinished, StepPromise}
-use Rattle.run_blocks.proofs.Blocks.{black-length, white-length}
+use Rattle.run_row.proofs.Blocks.{black-length, white-length}
 use Rattle.theorems.specs.FirstList.{InPlace}
 use Rattle.theorems.specs.SecondList.{Step, History, writes, written, Row, rowOf, handed, rows, rowAt, IsRow, StepDoes, Accepted, SecondList, SecondListHolds}
 use Rattle.theorems.proofs.Runs.{given-once, not-over}

@@ -93,7 +93,7 @@ pub record Characteristic (D : Pair) : Type 0 where
 pub record KeptOnce (D : Pair) : Type 0 where
   pub kept : Pair
   pub in-form : Characteristic kept
-  pub alike : Isomorphic (D .black) (D .white) (kept .black) (kept .white)
+  pub isomorphic : Isomorphic (D .black) (D .white) (kept .black) (kept .white)
   pub is-kept : Kept (kept .black) (kept .white) 1
   pub only : (E : Pair) → Characteristic E → Isomorphic (D .black) (D .white) (E .black) (E .white) → Kept (E .black) (E .white) 1 → E ≡ kept
 

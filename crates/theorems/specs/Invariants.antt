@@ -73,5 +73,5 @@ pub record InvariantsHold : Type 0 where
   -- the numbers that the operation answers are the invariants of the diagram given
   pub measured : (s0 s1 : List ℕ) (root : ℕ) (x : Numbers) → InvariantsPromise s0 s1 root (Known x) → Means (length s0) (at s0) (at s1) x
   -- isomorphic diagrams have the same invariants, and the operation answers the same numbers for them
-  pub alike-same : (s0 s1 : List ℕ) (r : ℕ) → Accepts s0 s1 r → (t0 t1 : List ℕ) → Isomorphic s0 s1 t0 t1 → (x : Numbers) → Invariants s0 s1 x → Invariants t0 t1 x
-  pub alike-measured : (s0 s1 : List ℕ) (r : ℕ) (x : Numbers) → InvariantsPromise s0 s1 r (Known x) → (t0 t1 : List ℕ) (q : ℕ) (y : Numbers) → InvariantsPromise t0 t1 q (Known y) → Isomorphic s0 s1 t0 t1 → x ≡ y
+  pub isomorphic-same : (s0 s1 : List ℕ) (r : ℕ) → Accepts s0 s1 r → (t0 t1 : List ℕ) → Isomorphic s0 s1 t0 t1 → (x : Numbers) → Invariants s0 s1 x → Invariants t0 t1 x
+  pub isomorphic-measured : (s0 s1 : List ℕ) (r : ℕ) (x : Numbers) → InvariantsPromise s0 s1 r (Known x) → (t0 t1 : List ℕ) (q : ℕ) (y : Numbers) → InvariantsPromise t0 t1 q (Known y) → Isomorphic s0 s1 t0 t1 → x ≡ y

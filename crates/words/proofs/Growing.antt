@@ -25,7 +25,7 @@ pub record State (st s0 s1 : List ℕ) : Type 0 where
 -- what the finished diagram keeps of them
 pub record Keeps (st s0 s1 : List ℕ) (D : Pair) : Type 0 where
   pub longer : length s0 ≤ length (D .black)
-  pub level : length (D .white) ≡ length (D .black)
+  pub same-lengths : length (D .white) ≡ length (D .black)
   pub blacks : (x : ℕ) → OneTo (length s0) x → at (D .black) x ≡ at s0 x
   pub whites : (x : ℕ) → OneTo (length s0) x → ¬ Has x st → at (D .white) x ≡ at s1 x
 
@@ -99,10 +99,10 @@ module _ (k : ℕ) (r s0 s1 : List ℕ) (S : State (k ∷ r) s0 s1) where
 
   module _ (D : Pair) where
     keeps-W : Keeps r s0 s1 D → Keeps (k ∷ r) s0 s1 D
-    keeps-W K = record { longer = K .longer; level = K .level; blacks = K .blacks; whites = λ x e n. K .whites x e (λ h. n (inr h)) }
+    keeps-W K = record { longer = K .longer; same-lengths = K .same-lengths; blacks = K .blacks; whites = λ x e n. K .whites x e (λ h. n (inr h)) }
 
     keeps-F : Keeps (suc (suc c) ∷ suc c ∷ r) F0 F1 D → Keeps (k ∷ r) s0 s1 D
-    keeps-F K = record { longer = let i = rw length-3 at (K .longer) in omega arith; level = K .level; blacks = λ x e. K .blacks x (up x e) ∙ at-left s0 _ x (e .1); whites = λ x e n. K .whites x (up x e) (no x e n) ∙ old-white c x _ (e .1) (λ q. n (inl q)) }
+    keeps-F K = record { longer = let i = rw length-3 at (K .longer) in omega arith; same-lengths = K .same-lengths; blacks = λ x e. K .blacks x (up x e) ∙ at-left s0 _ x (e .1); whites = λ x e n. K .whites x (up x e) (no x e n) ∙ old-white c x _ (e .1) (λ q. n (inl q)) }
       where
         up : (x : ℕ) → OneTo (length s0) x → OneTo (length F0) x
         up x e = rw length-3 (omega arith)
@@ -154,7 +154,7 @@ module _ (k : ℕ) (r s0 s1 : List ℕ) (S : State (k ∷ r) s0 s1) where
       B-c = K .blacks c (B-edge c (omega arith) (omega arith)) ∙ at-right s0 _ c 0 (omega arith)
 
     keeps-B : Keeps r B0 B1 D → Keeps (k ∷ r) s0 s1 D
-    keeps-B K = record { longer = let i = rw length-1 at (K .longer) in omega arith; level = K .level; blacks = λ x e. K .blacks x (up x e) ∙ at-left s0 _ x (e .1); whites = λ x e n. K .whites x (up x e) (λ h. n (inr h)) ∙ old-white c x _ (e .1) (λ q. n (inl q)) }
+    keeps-B K = record { longer = let i = rw length-1 at (K .longer) in omega arith; same-lengths = K .same-lengths; blacks = λ x e. K .blacks x (up x e) ∙ at-left s0 _ x (e .1); whites = λ x e n. K .whites x (up x e) (λ h. n (inr h)) ∙ old-white c x _ (e .1) (λ q. n (inl q)) }
       where
         up : (x : ℕ) → OneTo (length s0) x → OneTo (length B0) x
         up x e = rw length-1 (omega arith)
@@ -204,7 +204,7 @@ module _ (k : ℕ) (r s0 s1 : List ℕ) (S : State (k ∷ r) s0 s1) where
     keeps-J : (D : Pair) → Keeps (removeAt d r) s0 J1 D → Keeps (k ∷ r) s0 s1 D
     keeps-J D K = record {
       longer = K .longer;
-      level = K .level;
+      same-lengths = K .same-lengths;
       blacks = K .blacks;
       whites = λ x e n. K .whites x e (λ h. n (inr (removeAt-has d r x h))) ∙ J-other x (λ q. n (inl q)) (λ q. n (inr (rw q p-has)));
     }
@@ -218,7 +218,7 @@ picked false q D e = absurd (none≢some D e)
 
 pub keeps : (w st s0 s1 : List ℕ) (D : Pair) → State st s0 s1 → spells w st s0 s1 ≡ some D → Keeps st s0 s1 D
 unfolding spells
-keeps [] [] s0 s1 D S e = record { longer = rw b (omega arith); level = rw (b, w) (S .even); blacks = λ x i. rw b; whites = λ x i n. rw w }
+keeps [] [] s0 s1 D S e = record { longer = rw b (omega arith); same-lengths = rw (b, w) (S .even); blacks = λ x i. rw b; whites = λ x i n. rw w }
   where
     b : D .black ≡ s0
     b = cc

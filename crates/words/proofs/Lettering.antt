@@ -14,8 +14,8 @@ use Rattle.words.specs.Outputs.{overwriteFrom}
 use Rattle.words.specs.Letters.{decimal, BytesWritten, BytesPut, first-letter, event-letters, events-letters, letters, LettersPromise}
 use Rattle.words.specs.declared.Lettered.{Lettered}
 use Rattle.words.specs.declared.Lettered.the-variants.{Length, Refused}
-use Rattle.words.proofs.Outputs.{from-none, from-length, from-from}
-use Rattle.words.proofs.Writing.{wrote-byte, wrote-then, put-wrote}
+use Rattle.lists.proofs.Overwriting.{from-none, from-length, from-from}
+use Rattle.words_decimals.proofs.Writing.{wrote-byte, wrote-then, put-wrote}
 
 -- ---- an event
 

@@ -215,6 +215,6 @@ spelled-diagram (suc (suc x) ∷ w) D e = absurd (none≢some D e)
 pub spelled-lengths : (w : List ℕ) (D : Pair) → spell w ≡ some D → length (D .white) ≡ length (D .black)
 unfolding spell
 spelled-lengths [] D e = absurd (none≢some D e)
-spelled-lengths (zero ∷ w) D e = keeps w _ _ _ D state-U e .level
-spelled-lengths (suc zero ∷ w) D e = keeps w _ _ _ D state-T e .level
+spelled-lengths (zero ∷ w) D e = keeps w _ _ _ D state-U e .same-lengths
+spelled-lengths (suc zero ∷ w) D e = keeps w _ _ _ D state-T e .same-lengths
 spelled-lengths (suc (suc x) ∷ w) D e = absurd (none≢some D e)

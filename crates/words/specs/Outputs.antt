@@ -1,23 +1,17 @@
 -- Lists that an operation writes to (document 01: "An accepted write fills the first places it needs; the rest is untouched").
 -- Lists named a are as they were lent, lists named b as they are handed back.
 --
---   overwrite x a              the list a with x written over its beginning
---   overwriteFrom i x a            the list a with x written over it from place i on; places go from 0
---   Short n a0 a1 aw      an output list is short for a diagram of n edges and its word: n, n, and n + 1 (refusal 9)
---   Written D w ..        the lists hold the diagram D and the word w, and after them what they held
---   Untouched ..          the lists are as they were
+--   Short n a0 a1 aw    an output list is short for a diagram of n edges and its word: n, n, and n + 1 (refusal 9)
+--   Written D w ..      the lists hold the diagram D and the word w, and after them what they held
+--   Untouched ..        the lists are as they were
 use mathlib.Core.Path.{_≡_}
 use mathlib.Core.Logic.{_⊎_}
-use mathlib.Core.List.{List, _++_}
-use Prim.Native.Nat.{ℕ, suc, _+_, _<_}
-use lib.ListN.{length, take, drop}
+use mathlib.Core.List.{List}
+use Prim.Native.Nat.{ℕ, suc, _<_}
+use lib.ListN.{length}
 use Rattle.words.specs.Word.{Pair}
-
-abbrev pub overwrite : List ℕ → List ℕ → List ℕ
-overwrite x a = x ++ drop (length x) a
-
-unfoldable pub overwriteFrom : ℕ → List ℕ → List ℕ → List ℕ
-overwriteFrom i x a = take i a ++ (x ++ drop (i + length x) a)
+pub use Rattle.lists.specs.Overwriting.{overwrite}
+unfoldable pub use Rattle.lists.specs.Overwriting.{overwriteFrom}
 
 abbrev pub Short : ℕ → List ℕ → List ℕ → List ℕ → Type 0
 Short n a0 a1 aw = (length a0 < n) ⊎ ((length a1 < n) ⊎ (length aw < suc n))

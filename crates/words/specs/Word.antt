@@ -1,5 +1,6 @@
 -- Words and the diagram that a word spells (document 01, "Labelling and words"). A word is a list of numbers: first U = 0 or T = 1,
--- then the events W = 0, F = 1, B = 2 and Jd = 3 + d.
+-- then the events W = 0, F = 1, B = 2 and Jd = 3 + d. In the field's terms a diagram with its root is a rooted map, and its word the
+-- canonical word, or code, of that map.
 --
 --   Pair                          a diagram as its two lists, black (s0) and white (s1); its root is edge 1
 --   spells items pending s0 s1    what the items spell from here on: `pending` is the stack of pending labels, its top first;

@@ -1,78 +1,14 @@
-// Words: their dictionary order and their letters; and decimals, which letters have. (What a word spells: specs/Word.antt.)
+// Words: what a word spells (specs/Word), its event letters, and its dictionary order.
+use words_decimals::decimal_length;
+pub use words_decimals::put_decimal;
+pub use words_order::lesser;
+pub use words_order::precedes;
 ghost use mathlib.Core.Path.{_≡_};
-ghost use mathlib.Core.Bool.{cond};
 ghost use mathlib.Core.List.{_∷_, []};
 ghost use Prim.Native.Nat.{_+_, _≤_, _<_};
 ghost use lib.Dec.{leb};
 ghost use lib.ListN.{length};
-ghost use Rattle.words.specs.Order.{precedes, lesser};
-ghost use Rattle.words.specs.Letters.{decimal, BytesWritten, BytesPut, first-letter, event-letters, events-letters, LettersPromise};
-
-// Whether a comes before b in dictionary order.
-pub fn precedes(a: &[u16], b: &[u16]) -> bool
-    ensures { λ r. ⌜ r ≡ precedes (now (a .entry)) (now (b .entry)) ⌝ }
-{
-    let mut i: usize = 0;
-    while i < b.len() {
-        if a.len() <= i {
-            return true;
-        }
-        let x = a[i];
-        let y = b[i];
-        if x != y {
-            return x < y;
-        }
-        i += 1;
-    }
-    false
-}
-
-// The smaller of two lent lists, itself handed back and not a copy; on equality the first.
-pub fn lesser<'a>(a: &'a [u16], b: &'a [u16]) -> &'a [u16]
-    ensures which { λ r. ⌜ r ≡ cond (precedes (now (b .entry)) (now (a .entry))) (b .entry) (a .entry) ⌝ }
-    ensures items { λ r. ⌜ now r ≡ lesser (now (a .entry)) (now (b .entry)) ⌝ }
-{
-    if precedes(b, a) {
-        return b;
-    }
-    a
-}
-
-// How many digits m has.
-fn decimal_length(m: u64) -> usize
-    ensures { λ r. ⌜ r ≡ length (decimal m) ⌝ }
-{
-    let mut n: usize = 1;
-    let mut x = m;
-    while 10 <= x {
-        x /= 10;
-        n += 1;
-    }
-    n
-}
-
-// Writes m in decimal at a place of out and returns the place after it. Where it does not fit, it writes nothing and returns
-// the place itself.
-pub fn put_decimal(out: &mut [u8], at: usize, m: u64) -> usize
-    ensures { λ r. ⌜ BytesPut (now (out .entry)) at (decimal m) r (now (out .exit)) ⌝ }
-{
-    let n = decimal_length(m);
-    if out.len() < at {
-        return at;
-    }
-    if out.len() - at < n {
-        return at;
-    }
-    let mut end = at + n;
-    let mut x = m;
-    while 10 <= x {
-        end -= 1;
-        out[end] = 48 + (x % 10) as u8;
-        x /= 10;
-    }
-    out[at] = 48 + x as u8;
-    at + n
-}
+ghost use Rattle.words.specs.Letters.{BytesWritten, first-letter, event-letters, events-letters, LettersPromise};
 
 // The answer of letters: how many bytes it wrote, or the number of the refusal.
 pub enum Lettered {

@@ -1,12 +1,11 @@
 -- The first places of an array after stores: those just past them join them, and those among them are stores to the list they hold.
 use mathlib.Core.Path.{_≡_, refl}
 use mathlib.Core.List.{List, [], _∷_, _++_, append-assoc}
-use Prim.Native.Nat.{ℕ, zero, suc, _-_, _≤_}
+use Prim.Native.Nat.{ℕ, zero, suc, _≤_}
 use native.Mathlib.Omega.{arith}
 use lib.ListN.{length, set, take, length-set}
 use lib.Seq.{take-suc-set, take-set-lt}
 use Rattle.lists.specs.Lists.{put}
-use Rattle.lists.proofs.Lists.{put-place}
 
 pub take-3 : (x : List ℕ) (u a b c : ℕ) → suc (suc (suc u)) ≤ length x
     → take (suc (suc (suc u))) (set (set (set x u a) (suc u) b) (suc (suc u)) c) ≡ take u x ++ (a ∷ b ∷ c ∷ [])
@@ -21,6 +20,3 @@ take-3 x u a b c h =
 pub take-put : (x : List ℕ) (u k v : ℕ) → k ≤ u → take u (put x k v) ≡ put (take u x) k v
 take-put x u zero v h = refl
 take-put x u (suc k) v h = take-set-lt u x k v h
-
-pub put-pair : (x : List ℕ) (a b : ℕ) → 1 ≤ a → 1 ≤ b → set (set x (a - 1) b) (b - 1) a ≡ put (put x a b) b a
-put-pair x a b h g = rw (put-place x a b h) (put-place (put x a b) b a g)

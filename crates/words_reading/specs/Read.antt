@@ -3,8 +3,8 @@
 --   Read                     a refusal with 01's number, or the diagram built
 --   items w pending s0 s1    the items after the first, one by one: 26, 23, 24, and 25 at the end (the state as in `spells`)
 --   read w                   21, then 22 for the first item, then its items
---   readAnswer w a b             that, and 9 where a list with room for a (or b) entries is short
---   ReadPromise ..                  the promise: the answer's number or size, and the lists after it from the lists before it
+--   readAnswer w a b         that, and 9 where a list with room for a (or b) entries is short
+--   ReadPromise ..           the promise: the answer's number or size, and the lists after it from the lists before it
 use mathlib.Core.Path.{_≡_}
 use mathlib.Core.Bool.{cond}
 use mathlib.Core.List.{List, [], _∷_, _++_}

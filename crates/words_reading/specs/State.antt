@@ -1,11 +1,11 @@
 -- How the code of read word holds the state of `items` in its arrays. Only the contracts of the functions below read word cite this.
 --
---   State             the pending labels, the top first, and the two lists of the labels given so far
---   afterU, triple     the states after the first item: U, T
---   readOn w t        what the items w give from the state t
---   ReadingHeld ..          the arrays hold the state: the ring its stack, the first places of x0 and x1 its lists
---   ReadingAfter q w r ..   where reading stands after the answer r: q, the answer to the whole word, is that refusal, or else
---                     it is what the items w, which are still to be read, give from a state that the arrays hold
+--   State                    the pending labels, the top first, and the two lists of the labels given so far
+--   afterU, triple           the states after the first item: U, T
+--   readOn w t               what the items w give from the state t
+--   ReadingHeld ..           the arrays hold the state: the ring its stack, the first places of x0 and x1 its lists
+--   ReadingAfter q w r ..    where reading stands after the answer r: q, the answer to the whole word, is that refusal, or else
+--                            it is what the items w, which are still to be read, give from a state that the arrays hold
 use mathlib.Core.Path.{_≡_}
 use mathlib.Core.List.{List, [], _∷_}
 use Prim.Native.Nat.{ℕ, _≤_}

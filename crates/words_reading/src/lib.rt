@@ -3,12 +3,12 @@
 // and both lists to have room.
 use diagrams::Diagram;
 use lists::fill;
+use lists::pair;
 use lists::to_index;
 ghost use mathlib.Core.Path.{_≡_};
 ghost use mathlib.Core.List.{List, [], _∷_};
 ghost use Prim.Native.Nat.{ℕ, suc, _<_};
 ghost use lib.ListN.{length};
-ghost use Rattle.lists.specs.Lists.{put};
 ghost use Rattle.lists.specs.Ranges.{OneTo};
 ghost use Rattle.pending_ring.specs.Ring.{Ring};
 ghost use Rattle.words_reading.specs.Read.{items, readFirst, withRoom, readAnswer, ReadPromise};
@@ -24,17 +24,6 @@ pub enum Reading {
 enum Step {
     Next { used: u16, height: u16 },
     Refused(u16),
-}
-
-// Makes a and b each other's white partner.
-fn pair(x1: &mut [u16; Diagram::MAX_SIZE], a: u16, b: u16)
-    requires { ⌜ OneTo 1024 a × OneTo 1024 b ⌝ }
-    ensures { λ _. ⌜ now (x1 .exit) ≡ put (put (now (x1 .entry)) a b) b a ⌝ }
-{
-    let i = to_index(a) - 1;
-    let j = to_index(b) - 1;
-    x1[i] = b;
-    x1[j] = a;
 }
 
 // U: the root is alone on its black vertex.
@@ -98,13 +87,13 @@ fn add_triple(
     if (Diagram::MAX_SIZE as u16) < used + 3 {
         return Step::Refused(24);
     }
-    let at = to_index(used);
-    x0[at] = used + 2;
-    x0[at + 1] = used + 3;
-    x0[at + 2] = used + 1;
+    let place = to_index(used);
+    x0[place] = used + 2;
+    x0[place + 1] = used + 3;
+    x0[place + 2] = used + 1;
     pair(x1, k, used + 1);
-    x1[at + 1] = used + 2;
-    x1[at + 2] = used + 3;
+    x1[place + 1] = used + 2;
+    x1[place + 2] = used + 3;
     pending_ring::push(next, prev, used + 2);
     pending_ring::push(next, prev, used + 3);
     Step::Next {
@@ -129,8 +118,8 @@ fn add_alone(
     if (Diagram::MAX_SIZE as u16) < used + 1 {
         return Step::Refused(24);
     }
-    let at = to_index(used);
-    x0[at] = used + 1;
+    let place = to_index(used);
+    x0[place] = used + 1;
     pair(x1, k, used + 1);
     Step::Next {
         used: used + 1,

@@ -1,4 +1,4 @@
--- Laws of drawings: an item more, an item less, and a drawing of a whole word.
+-- Laws of spellings: an item more, an item less, and the spelling of a whole word.
 use mathlib.Core.Path.{_≡_, refl, sym, ap, _∙_}
 use mathlib.Core.Logic.{_≢_, _⊎_, inl, inr}
 use mathlib.Core.Option.{some}
@@ -66,9 +66,9 @@ module _ (w : List ℕ) (L : ListedWord w) where
   abbrev D : Pair
   D = L .2 .pair
 
-  drawn-made : (stack popped a0 a1 b0 b1 : List ℕ) (i used height : ℕ) → 1 ≤ i → i ≤ length w → SpellingState D (drop i w) (stateOf (take i w)) a0 a1 stack b0 b1 used height
+  spelling-made : (stack popped a0 a1 b0 b1 : List ℕ) (i used height : ℕ) → 1 ≤ i → i ≤ length w → SpellingState D (drop i w) (stateOf (take i w)) a0 a1 stack b0 b1 used height
       → length a0 ≡ 64 → length a1 ≡ 64 → length popped ≡ 64 → ((j : ℕ) → 1 ≤ j → j < i → getD popped j 0 ≡ topLabel (stateOf (take j w))) → SpelledSoFar (take i w) stack popped b0 b1 used height
-  drawn-made stack popped a0 a1 b0 b1 i used height a l M l0 l1 lp n =
+  spelling-made stack popped a0 a1 b0 b1 i used height a l M l0 l1 lp n =
       let q = same-long D (drop i w) _ a0 a1 stack b0 b1 used height M in
       record {
         rest = drop i w;
@@ -81,8 +81,8 @@ module _ (w : List ℕ) (L : ListedWord w) where
       }
 
   module _ (stack popped s0 s1 : List ℕ) (i used height : ℕ) (a : 1 ≤ i) (l : i < length w) (R : SpelledSoFar (take i w) stack popped s0 s1 used height) where
-    pub drawn-midway : SpellingState D (getD w i 0 ∷ drop (i + 1) w) (stateOf (take i w)) s0 s1 stack s0 s1 used height
-    drawn-midway =
+    pub spelling-midway : SpellingState D (getD w i 0 ∷ drop (i + 1) w) (stateOf (take i w)) s0 s1 stack s0 s1 used height
+    spelling-midway =
         let b = listed-begins w i L a (omega arith) in
         rw (← next-item w i l) record {
           goes = begun-good D (take i w) (drop i w) (b .some-item) (b .spelt) .0;
@@ -91,21 +91,21 @@ module _ (w : List ℕ) (L : ListedWord w) where
           room = room-of D s0 s1 (b .small) (R .long .s0-long) (R .long .s1-long);
         }
 
-    pub drawn-height : (1 ≤ height) × (height ≤ 50)
-    drawn-height = pending-some D _ _ s0 s1 stack s0 s1 used _ height drawn-midway
+    pub spelling-height : (1 ≤ height) × (height ≤ 50)
+    spelling-height = pending-some D _ _ s0 s1 stack s0 s1 used _ height spelling-midway
 
     -- the label that the item pops is noted
-    pub drawn-added : (q t0 t1 : List ℕ) (u h : ℕ) → SpellingState D (drop (i + 1) w) (stateAfter (getD w i 0) (stateOf (take i w))) s0 s1 q t0 t1 u h
+    pub spelling-added : (q t0 t1 : List ℕ) (u h : ℕ) → SpellingState D (drop (i + 1) w) (stateAfter (getD w i 0) (stateOf (take i w))) s0 s1 q t0 t1 u h
         → SpelledSoFar (take (i + 1) w) q (set popped i (getD stack (height - 1) 0)) t0 t1 u h
-    drawn-added q t0 t1 u h M =
+    spelling-added q t0 t1 u h M =
         let Lg = R .long in
-        drawn-made q _ s0 s1 t0 t1 (i + 1) u h (omega arith) (omega arith) (rw (begun-next w i a l) M) (Lg .s0-long) (Lg .s1-long) (length-set popped i _ ∙ Lg .popped-long) note
+        spelling-made q _ s0 s1 t0 t1 (i + 1) u h (omega arith) (omega arith) (rw (begun-next w i a l) M) (Lg .s0-long) (Lg .s1-long) (length-set popped i _ ∙ Lg .popped-long) note
       where
         k : ℕ
         k = getD stack (height - 1) 0
 
         is-top : k ≡ topLabel (stateOf (take i w))
-        is-top = sym (ap (λ (r : List ℕ). getD r 0 0) (laws.popped D _ _ s0 s1 stack s0 s1 used _ height (height - 1) drawn-midway refl .pending-is))
+        is-top = sym (ap (λ (r : List ℕ). getD r 0 0) (laws.popped D _ _ s0 s1 stack s0 s1 used _ height (height - 1) spelling-midway refl .pending-is))
 
         note : (j : ℕ) → 1 ≤ j → j < i + 1 → getD (set popped i k) j 0 ≡ topLabel (stateOf (take j w))
         note j b m = go (same? j i)
@@ -118,10 +118,10 @@ module _ (w : List ℕ) (L : ListedWord w) where
                 ∙ rw (take-take j i w (omega arith))
 
   -- the first item
-  pub drawn-begun : (stack popped s0 s1 q t0 t1 : List ℕ) (u h : ℕ) → 1 ≤ length w → ScratchLengths stack popped s0 s1 → SpellingState D (drop 1 w) (firstState (getD w 0 0)) s0 s1 q t0 t1 u h
+  pub spelling-begun : (stack popped s0 s1 q t0 t1 : List ℕ) (u h : ℕ) → 1 ≤ length w → ScratchLengths stack popped s0 s1 → SpellingState D (drop 1 w) (firstState (getD w 0 0)) s0 s1 q t0 t1 u h
       → SpelledSoFar (take 1 w) q popped t0 t1 u h
-  drawn-begun stack popped s0 s1 q t0 t1 u h l Lg M =
-      drawn-made q popped s0 s1 t0 t1 1 u h (omega arith) l (rw (take-more w 0 l, begun-one) M) (Lg .s0-long) (Lg .s1-long) (Lg .popped-long) (λ j a b. absurd (omega arith))
+  spelling-begun stack popped s0 s1 q t0 t1 u h l Lg M =
+      spelling-made q popped s0 s1 t0 t1 1 u h (omega arith) l (rw (take-more w 0 l, begun-one) M) (Lg .s0-long) (Lg .s1-long) (Lg .popped-long) (λ j a b. absurd (omega arith))
 
   pub listed-some : 1 ≤ length w
   listed-some = word-some (L .0) w (L .2)
@@ -142,7 +142,7 @@ below p = removeAt 0 (stateOf p .pending)
 abbrev left : List ℕ → ℕ → ℕ → State
 left p x k = eventState x k (below p) (stateOf p .black) (stateOf p .white)
 
--- the drawing of p and the item x, seen from the state that x found: k is the label it popped
+-- the spelling of p and the item x, seen from the state that x found: k is the label it popped
 pub record Last (p : List ℕ) (x : ℕ) (stack popped s0 s1 : List ℕ) (used h k : ℕ) : Type 0 where
   pub rest : List ℕ
   pub diagram : Pair
@@ -187,7 +187,7 @@ last w stack popped s0 s1 i used h a l R = rw is-top record {
     first : stateOf (take i w) .pending ≡ topLabel (stateOf (take i w)) ∷ below (take i w)
     first = popped-first (R .diagram) (getD w i 0) (R .rest) (stateOf (take i w)) (good .0)
 
--- an item of a drawing has a place in the scratch lists
+-- an item that is spelled has a place in the scratch lists
 last-place : (w stack popped s0 s1 : List ℕ) (i used h : ℕ) → i < length w → SpelledSoFar (take (i + 1) w) stack popped s0 s1 used h → i < 64
 last-place w stack popped s0 s1 i used h l R =
     let b = R .begins in
@@ -226,9 +226,9 @@ module _ (p stack popped s0 s1 : List ℕ) (used h k : ℕ) where
     unfolding eventState
     room-W = let f = few 0 Z in let e = Z .height-is in omega arith
 
-    pub drawn-W : SpelledSoFar p (set stack h k) popped s0 s1 used (h + 1)
+    pub spelling-W : SpelledSoFar p (set stack h k) popped s0 s1 used (h + 1)
     unfolding eventState
-    drawn-W = let i = room-W in let e = Z .height-is in
+    spelling-W = let i = room-W in let e = Z .height-is in
         remade 0 Z _ _ _ _ (undo-W k (below p) _ _ (Z .sound) s0 s1 stack used h (Z .holds) (Z .height-is) (omega arith)) (Z .long .s1-long) (omega arith)
 
   module _ (Z : Last p 1 stack popped s0 s1 used h k) where
@@ -240,9 +240,9 @@ module _ (p stack popped s0 s1 : List ℕ) (used h k : ℕ) where
         let u = Z .holds .used-is ∙ length-3 (stateOf p .black) _ _ _ in
         (omega arith, omega arith, omega arith)
 
-    pub drawn-F : SpelledSoFar p (set stack (h - 2) k) popped s0 (set s1 (k - 1) k) (used - 3) (h - 1)
+    pub spelling-F : SpelledSoFar p (set stack (h - 2) k) popped s0 (set s1 (k - 1) k) (used - 3) (h - 1)
     unfolding eventState
-    drawn-F = let i = room-F in let e = Z .height-is in
+    spelling-F = let i = room-F in let e = Z .height-is in
         remade 1 Z _ _ _ _ (undo-F k (below p) _ _ (Z .sound) s0 s1 stack used h (Z .holds) (Z .height-is) (i .1)) (length-set s1 (k - 1) k ∙ Z .long .s1-long) (omega arith)
 
   module _ (Z : Last p 2 stack popped s0 s1 used h k) where
@@ -254,9 +254,9 @@ module _ (p stack popped s0 s1 : List ℕ) (used h k : ℕ) where
         let u = Z .holds .used-is ∙ length-1 (stateOf p .black) _ in
         (omega arith, omega arith)
 
-    pub drawn-B : SpelledSoFar p (set stack h k) popped s0 (set s1 (k - 1) k) (used - 1) (h + 1)
+    pub spelling-B : SpelledSoFar p (set stack h k) popped s0 (set s1 (k - 1) k) (used - 1) (h + 1)
     unfolding eventState
-    drawn-B = let i = room-B in let e = Z .height-is in
+    spelling-B = let i = room-B in let e = Z .height-is in
         remade 2 Z _ _ _ _ (undo-B k (below p) _ _ (Z .sound) s0 s1 stack used h (Z .holds) (Z .height-is) (omega arith)) (length-set s1 (k - 1) k ∙ Z .long .s1-long) (omega arith)
 
   module _ (d : ℕ) (Z : Last p (suc (suc (suc d))) stack popped s0 s1 used h k) where
@@ -279,9 +279,9 @@ module _ (p stack popped s0 s1 : List ℕ) (used h k : ℕ) where
         let j = p-in k (below p) _ _ (Z .sound) d deep in
         (omega arith, omega arith, Z .long .stack-long, Z .long .s1-long, let z = f .k-in in omega arith, rw joined-to (omega arith))
 
-    pub drawn-J : (q t : List ℕ) → JoinUndone stack q s1 t k d h → SpelledSoFar p q popped s0 t used (h + 2)
+    pub spelling-J : (q t : List ℕ) → JoinUndone stack q s1 t k d h → SpelledSoFar p q popped s0 t used (h + 2)
     unfolding eventState
-    drawn-J q t U =
+    spelling-J q t U =
         let i = room-J in
         let e = high in
         remade _ Z _ _ _ _ (undo-J k (below p) _ _ (Z .sound) s0 s1 stack used h d deep (Z .holds) high q t (i .1) U)
@@ -319,10 +319,10 @@ shares-some old new stack popped s0 s1 shared used height (inr h) n = h
 
 -- ---- a whole word
 
-pub drawn-whole : (w stack popped s0 s1 : List ℕ) (used height : ℕ) → SpelledSoFar w stack popped s0 s1 used height → (D : Pair) → spell w ≡ some D
+pub spelling-whole : (w stack popped s0 s1 : List ℕ) (used height : ℕ) → SpelledSoFar w stack popped s0 s1 used height → (D : Pair) → spell w ≡ some D
     → (take (length (D .black)) s0 ≡ D .black) × (take (length (D .black)) s1 ≡ D .white)
 unfolding spells
-drawn-whole w stack popped s0 s1 used height R D e = go (stateOf w .pending) (begun-good D w [] (R .begins .some-item) (ap spell (append-nil w) ∙ e) .0)
+spelling-whole w stack popped s0 s1 used height R D e = go (stateOf w .pending) (begun-good D w [] (R .begins .some-item) (ap spell (append-nil w) ∙ e) .0)
   where
     H : SpellingHeld (stateOf w .pending) (stateOf w .black) (stateOf w .white) s0 s1 stack s0 s1 used
     H = R .holds

@@ -1,4 +1,4 @@
--- Laws of entries that are put back, of a list's beginning, and of a label that goes back into the pile.
+-- Laws of entries that are put back, of a list's beginning, and of a label that goes back into the stack.
 use mathlib.Core.Path.{_≡_, refl, sym, ap, _∙_}
 use mathlib.Core.Logic.{_≢_, _⊎_, inl, inr}
 use mathlib.Core.List.{List, [], _∷_, _++_, append-assoc}
@@ -74,7 +74,7 @@ pub begins-parted : (s u b : List ℕ) (k p : ℕ) → OneTo (length s) k → On
 begins-parted s u b k p i j e f n g = begins s u (put (put b p p) k k)
     (rw (g, put-left (put (put s k p) p k) u p p (simp length-put j), put-left (put (put (put s k p) p k) p p) u k k (simp length-put i), parted s k p e f n))
 
--- ---- the pile
+-- ---- the stack
 
 pub all-of : (P : ℕ → Type 0) (l : List ℕ) → ((x : ℕ) → Has x l → P x) → All P l
 all-of P [] k = tt

@@ -1,4 +1,4 @@
--- An event taken back: from the state that it left, the pile and the lists hold the state before it again. One law per event.
+-- An event taken back: from the state that it left, the stack and the lists hold the state before it again. One law per event.
 use mathlib.Core.Path.{_≡_, refl, ap, _∙_}
 use mathlib.Core.Logic.{inl, inr}
 use mathlib.Core.List.{List, [], _∷_, _++_}

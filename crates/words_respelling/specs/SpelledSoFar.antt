@@ -1,12 +1,12 @@
--- A diagram drawn as far as a beginning of its word, so that events can be added at the word's end and taken back there.
+-- A diagram spelled as far as a beginning of its word, so that events can be added at the word's end and taken back there.
 --
---   ListedWord w           w spells a diagram of a listed size, at most 50 edges
---   ScratchLengths ..            the four scratch lists have 64 places each
+--   ListedWord w            w spells a diagram of a listed size, at most 50 edges
+--   ScratchLengths ..       the four scratch lists have 64 places each
 --   BeginningOf p rest D    the items `rest` finish the beginning p to a word of D, which is of a listed size
---   SpelledSoFar p ..         the scratch lists hold the state after the beginning p of a word: the pile its pending labels, `used` labels are given and
---                      `height` of them pending, s0 and s1 begin with its lists, and `popped` has at each item's place the label it popped
---   JoinUndone ..        Jd taken back, the pile p and the list s becoming q and t: k is parted from its partner, which stands d places below the top again
---   SharedBeginning ..          what may be kept of the drawing of `old` for that of `new`: nothing, or the items before the place `shared`
+--   SpelledSoFar p ..       the scratch lists hold the state after the beginning p of a word: the stack its pending labels, `used` labels are given and
+--                           `height` of them pending, s0 and s1 begin with its lists, and `popped` has at each item's place the label it popped
+--   JoinUndone ..           Jd taken back, the stack p and the list s becoming q and t: k is parted from its partner, which stands d places below the top again
+--   SharedBeginning ..      what serves of the spelling of `old` for that of `new`: nothing, or the items before the place `shared`
 use mathlib.Core.Path.{_≡_}
 use mathlib.Core.Logic.{_⊎_}
 use mathlib.Core.Option.{some}

@@ -1,4 +1,4 @@
-// A diagram drawn anew from where its word changes. Words that follow one another in dictionary order share a beginning; the scratch lists
+// A diagram spelled anew from where its word changes. Words that follow one another in dictionary order share a beginning; the scratch lists
 // keep the diagram as it stands after each item's event, and an event is taken back from its item and the label it popped.
 use lists::to_index;
 use words_spelling::LabelCounts;
@@ -13,7 +13,7 @@ ghost use Rattle.lists.specs.Ranges.{OneTo};
 ghost use Rattle.words_spelling.specs.Spelling.{Shifted};
 ghost use Rattle.words_respelling.specs.SpelledSoFar.{JoinUndone, ListedWord, ScratchLengths, SpelledSoFar, SharedBeginning};
 
-// Puts a label into the pile at a place; those from there on move up by one.
+// Puts a label into the stack at a place; those from there on move up by one.
 fn insert_at(stack: &mut [u16; 64], at: usize, height: usize, p: u16)
     requires { ⌜ (at ≤ height) × (height < 64) × (length (now stack) ≡ 64) ⌝ }
     ensures { λ _. ⌜ Shifted (now (stack .exit)) (now (stack .entry)) at height × (getD (now (stack .exit)) at 0 ≡ p) ⌝ }
@@ -39,7 +39,7 @@ fn unpair(s1: &mut [u16; 64], k: u16) -> u16
     p
 }
 
-// Jd taken back: k is parted from the label it was joined to, which goes back to its place in the pile, and k on top.
+// Jd taken back: k is parted from the label it was joined to, which goes back to its place in the stack, and k on top.
 fn undo_join(stack: &mut [u16; 64], s1: &mut [u16; 64], k: u16, d: usize, height: usize)
     requires { ⌜ (d ≤ height) × (height < 63) × (length (now stack) ≡ 64) × (length (now s1) ≡ 64) × OneTo 64 k × OneTo 64 (at (now s1) k) ⌝ }
     ensures { λ _. ⌜ JoinUndone (now (stack .entry)) (now (stack .exit)) (now (s1 .entry)) (now (s1 .exit)) k d height ⌝ }
@@ -166,7 +166,7 @@ fn add_events(
     m
 }
 
-// The drawing of `new`, from that of `old` where the first `shared` items are the same, or from nothing where `shared` is 0.
+// The spelling of `new`, from that of `old` where the first `shared` items are the same, or from nothing where `shared` is 0.
 pub fn respell(
     old: &[u16],
     new: &[u16],

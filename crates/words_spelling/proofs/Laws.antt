@@ -1,4 +1,4 @@
--- What an event writes into the pile and the lists is what it does in `spells`: one law per event, and before it the places it needs.
+-- What an event writes into the stack and the lists is what it does in `spells`: one law per event, and before it the places it needs.
 use mathlib.Core.Path.{_≡_, refl, sym, ap, _∙_}
 use mathlib.Core.Bool.{true}
 use mathlib.Core.Option.{some}
@@ -17,10 +17,10 @@ use Rattle.words.proofs.Outputs.{over-length, over-one}
 use Rattle.words.proofs.Growing.{none≢some, picked}
 use Rattle.words.proofs.Shape.{grows}
 use Rattle.words_spelling.specs.States.{State, eventState, stateAfter, firstState}
-use Rattle.words_spelling.specs.Spelling.{setThree, paired, Shifted, SpellingRoom, SpellingHeld, SpellingState}
-use Rattle.words_spelling.proofs.Lists.{stacked-push, stacked-at, stacked-removeAt, over-three, over-put}
+use Rattle.words_spelling.specs.Spelling.{setThree, Shifted, SpellingRoom, SpellingHeld, SpellingState}
+use Rattle.words_spelling.proofs.Lists.{stacked-push, stacked-at, stacked-removeAt, over-three, over-put, over-set}
 
--- ---- the pile and the lists, k being popped
+-- ---- the stack and the lists, k being popped
 
 module _ (k : ℕ) (r s0 s1 a0 a1 stack b0 b1 : List ℕ) (used : ℕ) (H : SpellingHeld (k ∷ r) s0 s1 a0 a1 stack b0 b1 used) where
   -- the next free label
@@ -63,7 +63,7 @@ module _ (k : ℕ) (r s0 s1 a0 a1 stack b0 b1 : List ℕ) (used : ℕ) (H : Spel
     within = (omega arith, (omega arith, all-map (OneTo used) (OneTo (suc (suc c))) (λ x i. let z = H .used-is in omega arith) r (H .within .1)));
     low = let y = H .low in let z = H .used-is in omega arith;
     s0-is = rw (H .s0-is) (rw (new1, new2) at (over-three s0 a0 used (suc c) (suc (suc c)) c (H .used-is) l0));
-    s1-is = rw (H .s1-is, over-put s1 a1 k c k-in) (rw (new1, new2) at (over-three (put s1 k c) a1 used k (suc c) (suc (suc c)) (rw length-put (sym (H .even))) l1));
+    s1-is = rw (H .s1-is, over-set s1 a1 k c k-in) (rw (new1, new2) at (over-three (put s1 k c) a1 used k (suc c) (suc (suc c)) (rw length-put (sym (H .even))) l1));
   }
 
   holds-B : used + 1 ≤ length a0 → used + 1 ≤ length a1
@@ -76,7 +76,7 @@ module _ (k : ℕ) (r s0 s1 a0 a1 stack b0 b1 : List ℕ) (used : ℕ) (H : Spel
     within = all-map (OneTo used) (OneTo c) (λ x i. let z = H .used-is in omega arith) r (H .within .1);
     low = let y = H .low in let z = H .used-is in omega arith;
     s0-is = rw (H .s0-is) (over-one s0 a0 used c (H .used-is) (omega arith));
-    s1-is = rw (H .s1-is, over-put s1 a1 k c k-in) (over-one (put s1 k c) a1 used k (rw length-put (sym (H .even))) (omega arith));
+    s1-is = rw (H .s1-is, over-set s1 a1 k c k-in) (over-one (put s1 k c) a1 used k (rw length-put (sym (H .even))) (omega arith));
   }
 
   module _ (d : ℕ) (l : d < length r) where
@@ -86,7 +86,7 @@ module _ (k : ℕ) (r s0 s1 a0 a1 stack b0 b1 : List ℕ) (used : ℕ) (H : Spel
     p-in : OneTo used p
     p-in = all-has (OneTo used) r p (H .within .1) (has-getD r d l)
 
-    holds-J : (q : List ℕ) (at end : ℕ) → Shifted stack q at end → at + suc d ≡ length r → length r ≤ suc end → SpellingHeld (removeAt d r) s0 (put (put s1 k p) p k) a0 a1 q b0 (paired b1 k p) used
+    holds-J : (q : List ℕ) (at end : ℕ) → Shifted stack q at end → at + suc d ≡ length r → length r ≤ suc end → SpellingHeld (removeAt d r) s0 (put (put s1 k p) p k) a0 a1 q b0 (put (put b1 k p) p k) used
     holds-J q at end s e m = record {
       long = s .long ∙ H .long;
       stacked = stacked-removeAt stack q r d at end s l e m (H .stacked .1);
@@ -221,7 +221,7 @@ module _ (D : Pair) (w : List ℕ) (S : State) (a0 a1 stack b0 b1 : List ℕ) (u
           let l1 : length b1 ≡ length a1 = ap length (P .holds .s1-is) ∙ over-length (S .white) a1 (omega arith) in
           (omega arith, omega arith, P .holds .long, omega arith, rw (partner-at (h - 1 - d) refl) (omega arith))
 
-      pub midway-J : (q : List ℕ) → Shifted stack q (h - 1 - d) (h - 1) → SpellingState D w (stateAfter x S) a0 a1 q b0 (paired b1 k (getD stack (h - 1 - d) 0)) used (h - 1)
+      pub midway-J : (q : List ℕ) → Shifted stack q (h - 1 - d) (h - 1) → SpellingState D w (stateAfter x S) a0 a1 q b0 (let p = getD stack (h - 1 - d) 0 in put (put b1 k p) p k) used (h - 1)
       unfolding eventState
       midway-J q s =
           let l = deep in

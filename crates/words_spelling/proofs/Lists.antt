@@ -1,4 +1,4 @@
--- Laws of a word's items, of the pile, and of writing over the beginning of a list.
+-- Laws of a word's items, of the stack, and of writing over the beginning of a list.
 use mathlib.Core.Path.{_≡_, refl, ap, _∙_}
 use mathlib.Core.Logic.{_≢_, _⊎_, inl, inr}
 use mathlib.Core.List.{List, [], _∷_, _++_, append-assoc}
@@ -12,8 +12,8 @@ use Rattle.lists.specs.Lists.{put, removeAt}
 use Rattle.lists.specs.Ranges.{OneTo}
 use Rattle.lists.proofs.Tests.{same?}
 use Rattle.lists.proofs.Lists.{length-removeAt, length-put, length-1, put-place, put-left}
-use Rattle.words.proofs.Outputs.{over-one}
-use Rattle.words.specs.Outputs.{overwrite}
+use Rattle.lists.specs.Overwriting.{overwrite}
+use Rattle.lists.proofs.Overwriting.{over-one}
 use Rattle.words_spelling.specs.Spelling.{setThree, StackHeld, Shifted}
 
 -- the items from place i on begin with the one there
@@ -27,7 +27,7 @@ jump-item (suc zero) d a b e f = absurd (b refl)
 jump-item (suc (suc zero)) d a b e f = absurd (e refl)
 jump-item (suc (suc (suc x))) d a b e f = omega arith
 
--- ---- the pile
+-- ---- the stack
 
 pub stacked-same : (p q r : List ℕ) → ((j : ℕ) → j < length r → getD q j 0 ≡ getD p j 0) → StackHeld p r → StackHeld q r
 stacked-same p q [] e h = tt
@@ -84,5 +84,8 @@ over-three s a i x y z e l =
     joined = simp append-assoc
 
 -- an entry already written
-pub over-put : (s a : List ℕ) (k v : ℕ) → OneTo (length s) k → set (overwrite s a) (k - 1) v ≡ overwrite (put s k v) a
-over-put s a k v e = rw (put-place (overwrite s a) k v (e .0), put-left s (drop (length s) a) k v e, length-put)
+pub over-put : (s a : List ℕ) (k v : ℕ) → OneTo (length s) k → put (overwrite s a) k v ≡ overwrite (put s k v) a
+over-put s a k v e = rw (put-left s (drop (length s) a) k v e, length-put)
+
+pub over-set : (s a : List ℕ) (k v : ℕ) → OneTo (length s) k → set (overwrite s a) (k - 1) v ≡ overwrite (put s k v) a
+over-set s a k v e = rw (put-place (overwrite s a) k v (e .0)) (over-put s a k v e)

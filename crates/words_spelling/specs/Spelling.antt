@@ -1,17 +1,16 @@
--- A diagram while its word is written out: what the lent lists and the pile of pending labels hold between two events.
+-- A diagram while its word is written out: what the lent lists and the stack of pending labels hold between two events.
 -- Lists named a are as they were lent, lists named b as they are now.
 --
---   setThree s i a b c             s with a, b, c at the places i, i + 1, i + 2
---   paired s a b                s with the labels a and b as each other's partners
---   StackHeld pile pending          the pile holds the pending labels, the bottom of the stack at place 0
---   Shifted p q at end          q is p with the entry at `at` taken out and those after it, up to the place `end`, moved down by one
---   SpellingRoom D a0 a1                the diagram D is of a listed size, and the lists have places enough for it
---   SpellingHeld pending s0 s1 ..      the pile holds the pending labels, and the lists begin with s0 and s1, those of the labels given so far
---   SpellingState D w S ..             the lists and the pile hold the state S, and the items w finish the diagram D from it
+--   setThree s i a b c               s with a, b, c at the places i, i + 1, i + 2
+--   StackHeld stack pending          the array holds the stack of pending labels, its bottom at place 0
+--   Shifted p q at end               q is p with the entry at `at` taken out and those after it, up to the place `end`, moved down by one
+--   SpellingRoom D a0 a1             the diagram D is of a listed size, and the lists have places enough for it
+--   SpellingHeld pending s0 s1 ..    the stack holds the pending labels, and the lists begin with s0 and s1, those of the labels given so far
+--   SpellingState D w S ..           the lists and the stack hold the state S, and the items w finish the diagram D from it
 use mathlib.Core.Path.{_≡_}
 use mathlib.Core.Option.{some}
 use mathlib.Core.List.{List, [], _∷_}
-use Prim.Native.Nat.{ℕ, suc, _+_, _-_, _≤_, _<_}
+use Prim.Native.Nat.{ℕ, suc, _+_, _≤_, _<_}
 use lib.ListN.{length, getD, set}
 use Rattle.lists.specs.Lists.{All}
 use Rattle.lists.specs.Ranges.{OneTo}
@@ -21,9 +20,6 @@ use Rattle.words_spelling.specs.States.{State}
 
 abbrev pub setThree : List ℕ → ℕ → ℕ → ℕ → ℕ → List ℕ
 setThree s i a b c = set (set (set s i a) (i + 1) b) (i + 2) c
-
-abbrev pub paired : List ℕ → ℕ → ℕ → List ℕ
-paired s a b = set (set s (a - 1) b) (b - 1) a
 
 abbrev pub StackHeld : List ℕ → List ℕ → Type 0
 StackHeld stack [] = Unit {0}

@@ -1,12 +1,12 @@
 -- What a beginning of a word leaves: the stack of pending labels and the lists of the labels given so far.
 --
---   State          pending, its top first; black and white, the lists so far
---   topLabel S          the pending label that the next event pops
+--   State                     pending, its top first; black and white, the lists so far
+--   topLabel S                the pending label that the next event pops
 --   eventState x k r s0 s1    what the event x makes of the label k, r being pending below it
---   stateAfter x S      the state after the event x (of no meaning where x cannot be read in S)
---   firstState x      the state after the first item x, U or T
---   stateAfterAll w S    the state after the events w, from S on
---   stateOf p        the state after the beginning p of a word
+--   stateAfter x S            the state after the event x (of no meaning where x cannot be read in S)
+--   firstState x              the state after the first item x, U or T
+--   stateAfterAll w S         the state after the events w, from S on
+--   stateOf p                 the state after the beginning p of a word
 use mathlib.Core.List.{List, [], _∷_, _++_}
 use Prim.Native.Nat.{ℕ, zero, suc}
 use lib.ListN.{length, getD}

@@ -1,16 +1,18 @@
 // The diagram of a word of a listed size (1 to 50), written straight into the lent lists. The pending labels stand in a small
-// array, the pile, with the top of the stack at its upper end: at these sizes a ring of 1,025 links would cost more than the word.
+// array, with the top of the stack at its upper end: at these sizes a ring of 1,025 links would cost more than the word.
+use lists::pair;
 use lists::to_index;
 ghost use mathlib.Core.Path.{_≡_};
 ghost use mathlib.Core.Option.{some};
 ghost use mathlib.Core.List.{List, _∷_};
 ghost use Prim.Native.Nat.{ℕ, _+_, _-_, _≤_, _<_};
 ghost use lib.ListN.{length, getD, set};
+ghost use Rattle.lists.specs.Lists.{put};
 ghost use Rattle.lists.specs.Ranges.{OneTo};
 ghost use Rattle.words.specs.Word.{Pair, spell, Spells};
 ghost use Rattle.words.specs.Outputs.{overwrite};
 ghost use Rattle.words_spelling.specs.States.{State, stateAfter, firstState};
-ghost use Rattle.words_spelling.specs.Spelling.{setThree, paired, Shifted, SpellingRoom, SpellingState};
+ghost use Rattle.words_spelling.specs.Spelling.{setThree, Shifted, SpellingRoom, SpellingState};
 
 // How many labels are given, and how many of them are pending.
 pub struct LabelCounts {
@@ -28,7 +30,7 @@ fn write_three(list: &mut [u16], at: usize, a: u16, b: u16, c: u16)
     list[at + 2] = c;
 }
 
-// Takes the label at a place out of the pile; those above it move down by one.
+// Takes the label at a place out of the stack; those above it move down by one.
 fn remove_at(stack: &mut [u16; 64], at: usize, height: usize)
     requires { ⌜ (at < height) × (height ≤ 64) × (length (now stack) ≡ 64) ⌝ }
     ensures { λ _. ⌜ Shifted (now (stack .entry)) (now (stack .exit)) at (height - 1) ⌝ }
@@ -41,7 +43,14 @@ fn remove_at(stack: &mut [u16; 64], at: usize, height: usize)
 }
 
 // F: k's partner is the next free label c, on a black vertex c, c + 1, c + 2; the last two are pushed.
-fn add_triple(stack: &mut [u16; 64], s0: &mut [u16], s1: &mut [u16], k: u16, used: u16, height: usize)
+fn add_triple(
+    stack: &mut [u16; 64],
+    s0: &mut [u16],
+    s1: &mut [u16],
+    k: u16,
+    used: u16,
+    height: usize,
+)
     requires { ⌜ OneTo used k × (used ≤ 50) × (height ≤ 50) × (used + 3 ≤ length (now s0)) × (used + 3 ≤ length (now s1)) ⌝ }
     ensures { λ _. ⌜ (now (stack .exit) ≡ set (set (now (stack .entry)) height (used + 2)) (height + 1) (used + 3))
         × (now (s0 .exit) ≡ setThree (now (s0 .entry)) used (used + 2) (used + 3) (used + 1))
@@ -68,22 +77,11 @@ fn add_alone(s0: &mut [u16], s1: &mut [u16], k: u16, used: u16)
     s1[u] = k;
 }
 
-// The white vertex of two labels.
-fn pair(s1: &mut [u16], a: u16, b: u16)
-    requires { ⌜ OneTo (length (now s1)) a × OneTo (length (now s1)) b ⌝ }
-    ensures { λ _. ⌜ now (s1 .exit) ≡ paired (now (s1 .entry)) a b ⌝ }
-{
-    let i = to_index(a) - 1;
-    let j = to_index(b) - 1;
-    s1[i] = b;
-    s1[j] = a;
-}
-
-// Jd: k's partner is the pending label d places below the top; it is taken out of the pile.
+// Jd: k's partner is the pending label d places below the top; it is taken out of the stack.
 fn join_pending(stack: &mut [u16; 64], s1: &mut [u16], k: u16, d: usize, height: usize)
     requires { ⌜ (d < height) × (height ≤ 64) × (length (now stack) ≡ 64) × OneTo (length (now s1)) k × OneTo (length (now s1)) (getD (now stack) (height - 1 - d) 0) ⌝ }
     ensures { λ _. ⌜ Shifted (now (stack .entry)) (now (stack .exit)) (height - 1 - d) (height - 1)
-        × (now (s1 .exit) ≡ paired (now (s1 .entry)) k (getD (now (stack .entry)) (height - 1 - d) 0)) ⌝ }
+        × (let p = getD (now (stack .entry)) (height - 1 - d) 0 in now (s1 .exit) ≡ put (put (now (s1 .entry)) k p) p k) ⌝ }
 {
     let at = height - 1 - d;
     let p = stack[at];

@@ -11,7 +11,7 @@ use Rattle.book_operations.proofs.open_core.Tie as tie
 use Rattle.book_operations.proofs.open_core.Reads as reads
 use Rattle.book_operations.proofs.open_core.Lts as lts
 use Rattle.book_operations.proofs.books.opened.Reads as opened-reads
-use Rattle.book_validity.proofs.tests.among.Reads as among-reads
+use Rattle.book_shares.proofs.tests.among.Reads as among-reads
 
 listed-size : (c : tie.Else1) → among 50 (c .before .before .args .size) ≡ true
 listed-size c = sym (c .before .among .ensures) ∙ not-false _ (c .if1 .left)
@@ -19,27 +19,21 @@ listed-size c = sym (c .before .among .ensures) ∙ not-false _ (c .if1 .left)
 few-shares : (c : tie.Else2) → among 32 (c .before .before .before .before .args .k) ≡ true
 few-shares c = sym (c .before .among2 .ensures) ∙ not-false _ (c .if2 .left)
 
--- src/lib.rt:31:9
 among-requires : tie.Need-among-requires
 among-requires c κs = search needs
 
--- src/lib.rt:32:9
 returns : tie.Need-returns
 returns c = unfold open-answer open-book open-number in (rw (sym (c .before .among .ensures) ∙ not-true _ (c .if1 .taken)) (refl, refl))
 
--- src/lib.rt:37:9
 among-requires-2 : tie.Need-among-requires-2
 among-requires-2 c κs = search needs
 
--- src/lib.rt:38:9
 returns-2 : tie.Need-returns-2
 returns-2 c = unfold open-answer open-book open-number in (rw (listed-size (c .before .before), sym (c .before .among2 .ensures) ∙ not-true _ (c .if2 .taken)) (refl, refl))
 
--- src/lib.rt:45:15
 opened-requires : tie.Need-opened-requires
 opened-requires c κs = let a = c .before .before .before .before .args in (among-true 50 (a .size) (listed-size (c .before .before)), among-true 32 (a .k) (few-shares c))
 
--- src/lib.rt:25:1
 returns-3 : tie.Need-returns-3
 returns-3 c = unfold open-answer open-book open-number in (rw (listed-size (c .before .before .before), few-shares (c .before)) (refl, c .opened .ensures))
 

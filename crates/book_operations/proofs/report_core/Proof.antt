@@ -5,7 +5,7 @@ use Rattle.book_operations.proofs.report_core.Tie as tie
 use Rattle.book_operations.proofs.report_core.Reads as reads
 use Rattle.book_operations.proofs.report_core.Lts as lts
 use Rattle.book_operations.proofs.books.heads.Reads as heads-reads
-use Rattle.book_operations.proofs.decisions.report.Reads as report-reads
+use Rattle.book_decisions.proofs.report.Reads as report-reads
 
 heads-requires : tie.Need-heads-requires
 heads-requires c κs = search needs

@@ -10,7 +10,7 @@ use borrow.Author.Tests.{not-true, not-false}
 use Rattle.lists.specs.Ranges.{every}
 use Rattle.book.specs.declared.types.Book.{Book}
 use Rattle.book.specs.Sound.{entries-sound}
-use Rattle.book_validity.specs.Entries.{bookWith, entry-sound}
+use Rattle.book_entries.specs.Entries.{bookWith, entry-sound}
 use Rattle.book.proofs.Entries.{every-false}
 use Rattle.book_validity.proofs.Ends.{ended, end-small, end-more, shared, part-small, step-small}
 use Rattle.book.specs.Shares.{last}
@@ -18,8 +18,8 @@ use Rattle.book_validity.proofs.entries_sound.Statement.{statement}
 use Rattle.book_validity.proofs.entries_sound.Tie as tie
 use Rattle.book_validity.proofs.entries_sound.Reads as reads
 use Rattle.book_validity.proofs.entries_sound.Lts as lts
-use Rattle.book_validity.proofs.entry_sound.Reads as entry-sound-reads
-use Rattle.book_validity.proofs.shares.onward.Reads as onward-reads
+use Rattle.book_entries.proofs.entry_sound.Reads as entry-sound-reads
+use Rattle.book_shares.proofs.onward.Reads as onward-reads
 
 entries-false : (b : Book) (i : ℕ) → i < 32 → entry-sound b (suc i) ≡ false → entries-sound b ≡ false
 unfolding entries-sound

@@ -9,18 +9,18 @@ use Rattle.lists.specs.Ranges.{OneTo}
 use Rattle.lists.proofs.Tests.{both-true, ltb-true}
 use Rattle.book.specs.declared.types.Book.{Book}
 use Rattle.book.specs.Sound.{both, among, in-range, counters-in, entries-sound, sound}
-use Rattle.book_validity.specs.Entries.{bookWith}
+use Rattle.book_entries.specs.Entries.{bookWith}
 use Rattle.book.proofs.SoundBook.{among-true}
 use Rattle.book.proofs.Entries.{both-both}
 use Rattle.book_validity.proofs.sound.Statement.{statement}
 use Rattle.book_validity.proofs.sound.Tie as tie
 use Rattle.book_validity.proofs.sound.Reads as reads
 use Rattle.book_validity.proofs.sound.Lts as lts
-use Rattle.book_validity.proofs.shares.count_of.Reads as count-of-reads
+use Rattle.book_shares.proofs.count_of.Reads as count-of-reads
 use Rattle.book_validity.proofs.counters_in.Reads as counters-in-reads
 use Rattle.book_validity.proofs.entries_sound.Reads as entries-sound-reads
-use Rattle.book_validity.proofs.tests.among.Reads as among-reads
-use Rattle.book_validity.proofs.tests.both.Reads as both-reads
+use Rattle.book_shares.proofs.tests.among.Reads as among-reads
+use Rattle.book_shares.proofs.tests.both.Reads as both-reads
 
 -- the test of the numbers, before that of the entries
 abbrev numbers : Book → Bool

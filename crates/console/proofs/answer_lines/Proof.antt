@@ -7,10 +7,12 @@ use Rattle.console.proofs.answer_lines.Statement.{statement}
 use Rattle.console.proofs.answer_lines.Tie as tie
 
 abbrev Inv-loop : tie.InvT-loop
-Inv-loop input searched out₀ current₀ start₀ from₀ at₀ out current start from at = (start ≤ from) × (from ≤ length input) × (length out ≡ length out₀)
+Inv-loop input searched skips run₀ book₀ out₀ passes₀ start₀ from₀ at₀ run book out passes start from at =
+    (start ≤ from) × (from ≤ length input) × (length out ≡ length out₀)
 
 abbrev μ-loop : tie.MeasureT-loop
-μ-loop input searched out₀ current₀ start₀ from₀ at₀ out current start from at = length input - from
+μ-loop input searched skips run₀ book₀ out₀ passes₀ start₀ from₀ at₀ run book out passes start from at =
+    length input - from
 
 loop-holds : tie.Need-loop-holds Inv-loop μ-loop
 loop-holds c = search needs

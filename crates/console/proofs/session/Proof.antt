@@ -7,13 +7,10 @@ use Rattle.console.proofs.session.Statement.{statement}
 use Rattle.console.proofs.session.Tie as tie
 
 abbrev Inv-loop : tie.InvT-loop
-Inv-loop input₀ out₀ state₀ have₀ turns₀ input out state have turns = (have ≤ length input) × (length input ≡ length input₀) × (length out ≡ length out₀)
+Inv-loop input₀ run₀ book₀ out₀ skips₀ have₀ turns₀ input run book out skips have turns = (have ≤ length input) × (length input ≡ length input₀) × (length out ≡ length out₀)
 
 abbrev μ-loop : tie.MeasureT-loop
-μ-loop input₀ out₀ state₀ have₀ turns₀ input out state have turns = turns
-
-start-requires : tie.Need-start-requires Inv-loop μ-loop
-start-requires c κs = search needs
+μ-loop input₀ run₀ book₀ out₀ skips₀ have₀ turns₀ input run book out skips have turns = turns
 
 loop-holds : tie.Need-loop-holds Inv-loop μ-loop
 loop-holds c = search needs
@@ -57,7 +54,6 @@ session-spec =
     (tie.spec
     Inv-loop
     μ-loop
-    start-requires
     loop-holds
     turn-requires
     answer-last-requires

@@ -2,7 +2,7 @@
 use Prim.Native.Nat.{ℕ}
 use borrow.Author.Needs.{needs}
 use borrow.Author.Tests.{not-true, not-false}
-use Rattle.diagrams.proofs.Answers.{yes-holds, no-fails}
+use Rattle.diagrams_entries.proofs.Answers.{yes-holds, no-fails}
 use Rattle.diagrams.proofs.Checks.{Before, refuses, accepts, mapped}
 use Rattle.diagrams.proofs.check.Statement.{statement}
 use Rattle.diagrams.proofs.check.Tie as tie

@@ -1,6 +1,6 @@
 -- `connected` meets its contract: cleared marks and an empty list are where a search begins.
 use borrow.Author.Needs.{needs}
-use Rattle.diagrams.proofs.Searching.{search-none}
+use Rattle.diagrams_search.proofs.Searching.{search-none}
 use Rattle.diagrams.proofs.connected.Statement.{statement}
 use Rattle.diagrams.proofs.connected.Tie as tie
 

@@ -1,15 +1,18 @@
--- `relabel_accepted` meets its contract: 9 where a list is short, otherwise what the whole labelling wrote.
+-- `relabel_accepted` meets its contract: 9 where a list is short, otherwise what is written.
 use borrow.Author.Needs.{needs}
 use mathlib.Core.Path.{refl}
 use mathlib.Core.Logic.{inl, inr}
 use native.Mathlib.Omega.{arith}
 use denote.Ref.{now}
+use lib.ListN.{length}
+use Rattle.words.specs.Outputs.{Short}
 use Rattle.words.proofs.Outputs.{not-short, untouched}
-use Rattle.labelling_code.proofs.Arrays.{zeros-ready}
-use Rattle.labelling_code.proofs.Sofar.{labels-edges}
-use Rattle.labelling_operations.proofs.Written.{held-white, relabel-written}
 use Rattle.labelling_operations.proofs.relabel_accepted.Statement.{statement}
 use Rattle.labelling_operations.proofs.relabel_accepted.Tie as tie
+
+-- past the three tests no list is short
+enough : (c : tie.Else3) → ¬ Short (length (now (c .before .before .before .before .before .before .before .before .args .s0))) (now (c .before .before .before .before .before .before .before .before .args .t0)) (now (c .before .before .before .before .before .before .before .before .args .t1)) (now (c .before .before .before .before .before .before .before .before .args .word))
+enough c = let s = c .before .before .before .before .before .before .before .before in not-short _ (now (s .args .t0)) (now (s .args .t1)) (now (s .args .word)) (c .before .before .if1 .left) (c .before .if2 .left) (c .if3 .left)
 
 returns : tie.Need-returns
 returns c = (inr (refl, c .before .before .before .before .before .before .pre, inl (c .if1 .taken)), untouched _ _ _)
@@ -20,29 +23,16 @@ returns-2 c = (inr (refl, c .before .before .before .before .before .before .bef
 returns-3 : tie.Need-returns-3
 returns-3 c = (inr (refl, c .before .before .before .before .before .before .before .before .pre, inr (inr (omega arith))), untouched _ _ _)
 
-cast-write-word : tie.Need-cast-write-word
-cast-write-word c = search needs
+cast-write-relabelled : tie.Need-cast-write-relabelled
+cast-write-relabelled c = search needs
 
-write-word-requires : tie.Need-write-word-requires
-write-word-requires c κs = (c .before .before .before .before .before .before .before .before .before .before .before .before .before .pre, (zeros-ready, c .before .before .before .before .before .if3 .left))
+write-relabelled-requires : tie.Need-write-relabelled-requires
+write-relabelled-requires c κs = (c .before .before .before .before .before .before .before .before .before .before .before .pre, enough (c .before .before .before))
 
-write-list-requires : tie.Need-write-list-requires
-write-list-requires c κs = (
-  (c .before .before .before .before .before .before .before .before .before .before .before .before .before .before .before .before .before .before .before .pre .size .1, c .before .before .before .before .before .before .before .before .before .before .before .before .before .if1 .left, c .before .before .before .before .before .before .before .before .before .before .before .before .before .before .before .before .before .before .before .pre .blacks),
-  (_, c .before .before .before .before .before .write-word .ensures .held, labels-edges _ _ _ (c .before .before .before .before .before .before .before .before .before .before .before .before .before .before .before .before .before .before .before .pre)),
-)
-
-write-list-requires-2 : tie.Need-write-list-requires-2
-write-list-requires-2 c κs =
-    let a = c .before .before .before .before .before .before .before .before .before .before .before .before .before .before .before .before .before .before .before .before .before .before .before .before .before .pre in (
-      (rw (a .lengths) (a .size .1), rw (a .lengths) (c .before .before .before .before .before .before .before .before .before .before .before .before .before .before .before .before .before .before .if2 .left), rw (a .lengths) (a .whites)),
-      (_, held-white _ _ _ _ _ _ _ (now (c .before .before .before .before .before .before .before .before .before .before .before .before .before .before .before .before .before .before .before .before .before .before .before .before .before .args .t0)) (now (c .before .before .before .before .before .before .before .before .before .before .before .before .before .before .before .before .before .before .before .before .before .before .before .before .before .args .t1)) _ (now (c .before .before .before .before .before .before .before .before .before .before .before .before .before .before .before .before .before .before .before .before .before .before .before .before .before .args .t0)) (now (c .before .before .before .before .before .before .before .before .before .before .before .before .before .before .before .before .before .before .before .before .before .before .before .before .before .args .t1)) _ _ a (c .before .before .before .before .before .before .before .before .before .before .before .write-word .ensures), rw (a .lengths) (labels-edges _ _ _ a)),
-    )
-
-cast-t19 : tie.Need-cast-t19
-cast-t19 c =
-    let i = c .before .before .before .before .before .before .before .before .before .before .before .before .before .before .write-word .ensures .few in
-    let j = c .before .before .before .before .before .before .before .before .before .before .before .before .before .before .before .before .before .before .before .before .before .before .before .before .before .before .before .before .pre .size in
+cast-t11 : tie.Need-cast-t11
+cast-t11 c =
+    let i = c .before .before .before .before .before .before .write-relabelled .ensures .0 in
+    let j = c .before .before .before .before .before .before .before .before .before .before .before .before .before .before .before .before .before .before .pre .size in
     omega arith
 
 same-length : tie.Need-same-length
@@ -55,11 +45,7 @@ same-length-3 : tie.Need-same-length-3
 same-length-3 c = search needs
 
 returns-4 : tie.Need-returns-4
-returns-4 c =
-    relabel-written _ _ _ _ _ _ _ _ _ _ _ _ _ _ (c .before .before .before .before .before .before .before .before .before .before .before .before .before .before .before .before .before .before .before .before .before .before .before .before .before .before .before .before .pre) (c .before .before .before .before .before .before .before .before .before .before .before .before .before .before .write-word .ensures)
-    (not-short _ (now (c .before .before .before .before .before .before .before .before .before .before .before .before .before .before .before .before .before .before .before .before .before .before .before .before .before .before .before .before .args .t0)) (now (c .before .before .before .before .before .before .before .before .before .before .before .before .before .before .before .before .before .before .before .before .before .before .before .before .before .before .before .before .args .t1)) (now (c .before .before .before .before .before .before .before .before .before .before .before .before .before .before .before .before .before .before .before .before .before .before .before .before .before .before .before .before .args .word)) (c .before .before .before .before .before .before .before .before .before .before .before .before .before .before .before .before .before .before .before .before .before .before .if1 .left) (c .before .before .before .before .before .before .before .before .before .before .before .before .before .before .before .before .before .before .before .before .before .if2 .left) (c .before .before .before .before .before .before .before .before .before .before .before .before .before .before .before .before .before .before .before .before .if3 .left))
-    (c .before .before .before .before .before .before .before .before .write-list .ensures)
-    (c .before .before .write-list2 .ensures)
+returns-4 c = let w = c .before .before .before .before .before .before .write-relabelled .ensures .1 in (c .before .before .before .before .before .before .before .before .before .before .before .before .before .before .before .before .before .before .pre, enough (c .before .before .before .before .before .before .before .before .before .before), w .0, w .1)
 
 pub relabel-accepted-spec : {M : Type 1} → statement M
 relabel-accepted-spec =
@@ -68,11 +54,9 @@ relabel-accepted-spec =
     returns
     returns-2
     returns-3
-    cast-write-word
-    write-word-requires
-    write-list-requires
-    write-list-requires-2
-    cast-t19
+    cast-write-relabelled
+    write-relabelled-requires
+    cast-t11
     same-length
     same-length-2
     same-length-3

@@ -45,10 +45,10 @@ abbrev end-or-pop-calls : ℕ → end-or-pop-lts.Claims
 end-or-pop-calls t = (write-reads.Asked, write-reads.Learnt, branch-below t, branch.Post)
 
 abbrev branch-Inv-loop : branch-lts.InvT-loop
-branch-Inv-loop out₀ at word₀ len h f end₀ e₀ out word end e = Branched out₀ at word₀ len h f out word end e
+branch-Inv-loop out₀ place word₀ len h f end₀ e₀ out word end e = Branched out₀ place word₀ len h f out word end e
 
 abbrev branch-μ-loop : branch-lts.MeasureT-loop
-branch-μ-loop out₀ at word₀ len h f end₀ e₀ out word end e = h + 3 - e
+branch-μ-loop out₀ place word₀ len h f end₀ e₀ out word end e = h + 3 - e
 
 branch-loop-holds : (t : ℕ) → branch-lts.Need-loop-holds (branch-calls t) (branch-at t) branch.Post branch-Inv-loop branch-μ-loop
 branch-loop-holds t c = branched-none _ _ _ _ _ _
@@ -74,7 +74,7 @@ branch-end-or-pop-requires t c κs =
     let l = c .before .before .before .before .loop in
     let a = c .before .before .after-event in (
       omega (arith, a .ensures .falls, s .pre .0),
-      branched-room (s .args .out .now) (s .args .at) (s .args .word .now) (s .args .len) (s .args .h) (s .args .f) (l .out) (l .word) (l .end) (l .e) (a .result .h) (a .result .f) (l .inv) (s .pre .1) (omega (arith, c .before .before .before .loop-test .taken)) (a .ensures),
+      branched-room (s .args .out .now) (s .args .place) (s .args .word .now) (s .args .len) (s .args .h) (s .args .f) (l .out) (l .word) (l .end) (l .e) (a .result .h) (a .result .f) (l .inv) (s .pre .1) (omega (arith, c .before .before .before .loop-test .taken)) (a .ensures),
     )
 
 branch-add-e : (t : ℕ) → branch-lts.Need-add-e (branch-calls t) (branch-at t) branch.Post branch-Inv-loop branch-μ-loop
@@ -89,7 +89,7 @@ branch-loop-again t c =
     let l = c .before .before .before .before .before .before .before .before .before .loop in
     let a = c .before .before .before .before .before .before .before .after-event in
     let p = c .before .before .before .before .end-or-pop in
-    branched-more (s .args .out .now) (s .args .at) (s .args .word .now) (s .args .len) (s .args .h) (s .args .f) (l .out) (l .word) (l .end) (l .e) (a .result .h) (a .result .f) (l .inv) (s .pre .1) (omega (arith, c .before .before .before .before .before .before .before .before .loop-test .taken)) (a .ensures) _ _ _
+    branched-more (s .args .out .now) (s .args .place) (s .args .word .now) (s .args .len) (s .args .h) (s .args .f) (l .out) (l .word) (l .end) (l .e) (a .result .h) (a .result .f) (l .inv) (s .pre .1) (omega (arith, c .before .before .before .before .before .before .before .before .loop-test .taken)) (a .ensures) _ _ _
     (p .kept .0) (p .kept .1 .1 .0) (p .ensures)
 
 branch-same-length : (t : ℕ) → branch-lts.Need-same-length (branch-calls t) (branch-at t) branch.Post branch-Inv-loop branch-μ-loop
@@ -106,7 +106,7 @@ branch-returns t c =
 end-or-pop-write-requires : (t : ℕ) → end-or-pop-lts.Need-write-requires (end-or-pop-calls t) (end-or-pop-at t) end-or-pop.Post
 end-or-pop-write-requires t c κs =
     let s = c .before .before .before .before .before .before in
-    ending (s .args .out .now) (s .args .at) (s .args .word .now) (s .args .len) (rw (c .before .before .before .if1 .taken, c .before .before .if2 .taken) at (s .pre .1))
+    ending (s .args .out .now) (s .args .place) (s .args .word .now) (s .args .len) (rw (c .before .before .before .if1 .taken, c .before .before .if2 .taken) at (s .pre .1))
 
 end-or-pop-sub-branch : (t : ℕ) → end-or-pop-lts.Need-sub-branch (end-or-pop-calls t) (end-or-pop-at t) end-or-pop.Post
 end-or-pop-sub-branch t c = omega (arith, c .before .before .if1 .left)
@@ -127,7 +127,7 @@ end-or-pop-returns : (t : ℕ) → end-or-pop-lts.Need-returns (end-or-pop-calls
 end-or-pop-returns t c =
     let s = c .before .before .before .before .before .before .before .before .before in
     rw (c .before .before .before .before .before .before .if1 .taken, c .before .before .before .before .before .if2 .taken)
-    (ended (s .args .out .now) (s .args .at) (s .args .word .now) (s .args .len) _ _ (omega (arith, s .pre .1 .places)) (c .before .before .write .ensures))
+    (ended (s .args .out .now) (s .args .place) (s .args .word .now) (s .args .len) _ _ (omega (arith, s .pre .1 .places)) (c .before .before .write .ensures))
 
 end-or-pop-returns-2 : (t : ℕ) → end-or-pop-lts.Need-returns-2 (end-or-pop-calls t) (end-or-pop-at t) end-or-pop.Post
 end-or-pop-returns-2 t c = rw (c .before .if1 .taken) (dead _ _ _ _ _ (c .if2 .left))

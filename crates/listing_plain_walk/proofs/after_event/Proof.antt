@@ -1,4 +1,4 @@
--- `after` meets its contract: each arm is the law of where its event leads.
+-- `after_event` meets its contract: each arm is the law of where its event leads.
 use borrow.Author.Needs.{needs}
 use native.Mathlib.Omega.{arith}
 use Rattle.listing_plain_walk.proofs.Rest.{leads-W, leads-F, leads-no-F, leads-B, leads-no-B, leads-J}

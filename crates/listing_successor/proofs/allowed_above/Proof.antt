@@ -1,4 +1,4 @@
--- `better` meets its contract: its test is that of the definition.
+-- `allowed_above` meets its contract: its test is that of the definition.
 use borrow.Author.Needs.{needs}
 use Rattle.lists.proofs.Tests.{lt-true, lt-false}
 use Rattle.listing_successor.proofs.allowed_above.Statement.{statement}

@@ -1,4 +1,4 @@
--- `grow` meets its contract: the event is one item more, and `end_word` writes the rest.
+-- `append_event` meets its contract: the event is one item more, and `end_word` writes the rest.
 use borrow.Author.Needs.{needs}
 use mathlib.Core.List.{_∷_, [], _++_}
 use native.Mathlib.Omega.{arith}

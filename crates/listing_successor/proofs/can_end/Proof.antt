@@ -1,4 +1,4 @@
--- `ends` meets its contract: each return is a clause of the definition.
+-- `can_end` meets its contract: each return is a clause of the definition.
 use Rattle.listing_successor.proofs.Cases.{ends-0, ends-1, ends-more}
 use Rattle.listing_successor.proofs.can_end.Statement.{statement}
 use Rattle.listing_successor.proofs.can_end.Tie as tie

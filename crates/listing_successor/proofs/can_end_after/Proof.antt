@@ -1,4 +1,4 @@
--- `canEndAfter` meets its contract: the level after the item, tested.
+-- `can_end_after` meets its contract: the state after the item, tested.
 use borrow.Author.Needs.{needs}
 use mathlib.Core.Path.{_∙_, ap}
 use Rattle.listing_successor.specs.declared.StackState.{StackState}

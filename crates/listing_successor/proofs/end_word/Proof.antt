@@ -1,4 +1,4 @@
--- `end_word` meets its contract. Invariant: the items written so far, with the least ending from the level reached, are what is to be
+-- `end_word` meets its contract. Invariant: the items written so far, with the least ending from the state reached, are what is to be
 -- written. Each item lowers the sum of the height and the free labels, the measure.
 use mathlib.Core.Path.{_≡_}
 use mathlib.Core.List.{List}
@@ -12,10 +12,10 @@ use Rattle.listing_successor.proofs.end_word.Statement.{statement}
 use Rattle.listing_successor.proofs.end_word.Tie as tie
 
 abbrev Inv-loop : tie.InvT-loop
-Inv-loop items₀ at height free i₀ h₀ f₀ items i h f = Ends i h f × ((p : List ℕ) → items₀ ≡ paddedWord p → at ≡ length p → Wrote p height free items i h f)
+Inv-loop items₀ place height free i₀ h₀ f₀ items i h f = Ends i h f × ((p : List ℕ) → items₀ ≡ paddedWord p → place ≡ length p → Wrote p height free items i h f)
 
 abbrev μ-loop : tie.MeasureT-loop
-μ-loop items₀ at height free i₀ h₀ f₀ items i h f = h + f
+μ-loop items₀ place height free i₀ h₀ f₀ items i h f = h + f
 
 loop-holds : tie.Need-loop-holds Inv-loop μ-loop
 loop-holds c = (record { ended = c .pre .4; small = c .pre .5; room = c .pre .3 }, λ p e l. wrote-none p _ _ _ _ e l)

@@ -1,4 +1,4 @@
--- `firstWord` meets its contract: where U leads to no end, T does.
+-- `first_word` meets its contract: where U leads to no end, T does.
 use borrow.Author.Needs.{needs}
 use mathlib.Core.Path.{_≡_, sym, ap, _∙_}
 use Rattle.listing_successor.specs.Successor.{stateAfterFirst, canEnd, firstWord}

@@ -1,4 +1,4 @@
--- `fits` meets its contract. Invariant: what is left fits the level reached exactly if the whole fits the first level.
+-- `fits` meets its contract. Invariant: what is left fits the state reached exactly if the whole fits the first state.
 use Prim.Native.Nat.{_-_}
 use lib.ListN.{length}
 use borrow.Author.Needs.{needs}

@@ -1,4 +1,4 @@
--- `is_word` meets its contract: a word is its first item and a rest that fits the level after it.
+-- `is_word` meets its contract: a word is its first item and a rest that fits the state after it.
 use borrow.Author.Needs.{needs}
 use mathlib.Core.Bool.{true≢false}
 use mathlib.Core.Path.{sym}

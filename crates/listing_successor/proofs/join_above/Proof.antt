@@ -1,4 +1,4 @@
--- `jump` meets its contract: its test is that of the definition.
+-- `join_above` meets its contract: its test is that of the definition.
 use borrow.Author.Needs.{needs}
 use Rattle.lists.proofs.Tests.{lt-true, lt-false}
 use Rattle.listing_successor.proofs.join_above.Statement.{statement}

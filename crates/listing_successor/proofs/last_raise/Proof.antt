@@ -1,4 +1,4 @@
--- `last_raise` meets its contract. Invariant: the items before i lead to the level, and no item from i on can be raised; so the first item
+-- `last_raise` meets its contract. Invariant: the items before i lead to the state, and no item from i on can be raised; so the first item
 -- on the way back that can be raised is the last of the word.
 use mathlib.Core.Path.{_≡_}
 use Prim.Native.Nat.{ℕ, suc, _+_, _-_, _≤_, _<_}

@@ -1,4 +1,4 @@
--- `leastAbove` meets its contract: its tests are those of the definition, in the same order.
+-- `least_above` meets its contract: its tests are those of the definition, in the same order.
 use borrow.Author.Needs.{needs}
 use mathlib.Core.Path.{_∙_, sym}
 use Rattle.listing_successor.specs.Successor.{leastAbove}

@@ -1,4 +1,4 @@
--- `leastEvent` meets its contract: W, or else the least event above W.
+-- `least_event` meets its contract: W, or else the least event above W.
 use borrow.Author.Needs.{needs}
 use mathlib.Core.Path.{_∙_, sym}
 use Rattle.listing_successor.specs.Successor.{leastEvent}

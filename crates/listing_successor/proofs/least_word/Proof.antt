@@ -1,4 +1,4 @@
--- `rooted` meets its contract: `grow` from nothing, at the level after the first item.
+-- `least_word` meets its contract: `append_event` from nothing, at the state after the first item.
 use borrow.Author.Needs.{needs}
 use mathlib.Core.Path.{refl}
 use mathlib.Core.List.{_∷_, []}

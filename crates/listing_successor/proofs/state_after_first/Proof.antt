@@ -1,4 +1,4 @@
--- `start` meets its contract: each return is a clause of the definition, in the code's own terms.
+-- `state_after_first` meets its contract: each return is a clause of the definition, in the code's own terms.
 use borrow.Author.Needs.{needs}
 use mathlib.Core.Path.{_∙_}
 use Rattle.listing_successor.proofs.Cases.{start-U, start-T, start-T-none, start-none}

@@ -1,4 +1,4 @@
--- `after` meets its contract: each return is a clause of the definition, in the code's own terms.
+-- `state_after_item` meets its contract: each return is a clause of the definition, in the code's own terms.
 use borrow.Author.Needs.{needs}
 use mathlib.Core.Path.{_∙_}
 use Rattle.listing_successor.proofs.Cases.{after-W, after-F, after-F-none, after-B, after-B-none, after-J, after-J-none}

@@ -1,4 +1,4 @@
--- `unread` meets its contract: an item that was read tells the level before it from the level after it.
+-- `state_before` meets its contract: an item that was read tells the state before it from the state after it.
 use borrow.Author.Needs.{needs}
 use mathlib.Core.Path.{_∙_}
 use native.Mathlib.Omega.{arith}

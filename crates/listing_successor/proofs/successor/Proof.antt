@@ -26,7 +26,7 @@ module _ (c : tie.Else1) where
   there : Word n word
   there = word-there n word (c .before .before .pre .1) (c .if1 .left)
 
-  -- what is left after the first item, from the level after it
+  -- what is left after the first item, from the state after it
   fitting : Fits (stateAfterFirst n (getD word 0 0) .height) (stateAfterFirst n (getD word 0 0) .free) (rest word)
   fitting = word-to-rest n word (stateAfterFirst n (getD word 0 0)) refl there
 

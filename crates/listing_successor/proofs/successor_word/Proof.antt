@@ -1,4 +1,4 @@
--- `following` meets its contract: what `successor` gives.
+-- `successor_word` meets its contract: what `successor` gives.
 use borrow.Author.Needs.{needs}
 use Rattle.listing_successor.proofs.Padding.{held-by}
 use Rattle.listing_successor.proofs.successor_word.Statement.{statement}

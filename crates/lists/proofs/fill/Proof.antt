@@ -1,3 +1,4 @@
+-- `fill` meets its contract. The loop's invariant: the first i places hold those of the source.
 use mathlib.Core.Path.{_≡_, refl, sym, _∙_, ap}
 use mathlib.Core.List.{List, _++_}
 use Prim.Native.Nat.{ℕ, _+_, _-_, _≤_}
@@ -18,41 +19,32 @@ Inv-loop dst₀ src n i₀ dst i = (i ≤ n) × (n ≡ length src) × (n ≤ len
 abbrev μ-loop : tie.MeasureT-loop
 μ-loop dst₀ src n i₀ dst i = n - i
 
--- src/lib.rt:22:9
 returns : tie.Need-returns Inv-loop μ-loop
 returns c = rw (le-false _ _ (c .if1 .taken))
 
--- src/lib.rt:25:5
 loop-holds : tie.Need-loop-holds Inv-loop μ-loop
 loop-holds c = (search needs, refl, search needs, refl)
 
--- src/lib.rt:26:18
 mul-dst : tie.Need-mul-dst Inv-loop μ-loop
 mul-dst c = search needs
 
--- src/lib.rt:26:18
 shared-slice-read-dst : tie.Need-shared-slice-read-dst Inv-loop μ-loop
 shared-slice-read-dst c = search needs
 
--- src/lib.rt:26:9
 mul-dst-2 : tie.Need-mul-dst-2 Inv-loop μ-loop
 mul-dst-2 c = search needs
 
--- src/lib.rt:26:9
 slice-write-dst : tie.Need-slice-write-dst Inv-loop μ-loop
 slice-write-dst c =
     let e = ap length (c .before .before .loop .inv .3) ∙ copied-length (c .before .before .before .before .args .dst .now) (c .before .before .before .before .args .src .now) (c .before .before .loop .i) (omega arith) (omega arith) in
     omega arith
 
--- src/lib.rt:27:9
 add-i : tie.Need-add-i Inv-loop μ-loop
 add-i c = search needs
 
--- src/lib.rt:25:5
 loop-less : tie.Need-loop-less Inv-loop μ-loop
 loop-less c = search needs
 
--- src/lib.rt:25:5
 loop-again : tie.Need-loop-again Inv-loop μ-loop
 loop-again c = (
   search needs,
@@ -61,11 +53,9 @@ loop-again c = (
   rw (c .before .before .loop .inv .3) (copied-more (c .before .before .before .before .args .dst .now) (c .before .before .before .before .args .src .now) (c .before .before .loop .i) (omega arith) (omega arith)),
 )
 
--- src/lib.rt:17:1
 same-length : tie.Need-same-length Inv-loop μ-loop
 same-length c = ap length (c .before .loop .inv .3) ∙ copied-length (c .before .before .before .args .dst .now) (c .before .before .before .args .src .now) (c .before .loop .i) (omega arith) (omega arith)
 
--- src/lib.rt:17:1
 returns-2 : tie.Need-returns-2 Inv-loop μ-loop
 returns-2 c =
     let e : c .before .loop .i ≡ length src = omega arith in

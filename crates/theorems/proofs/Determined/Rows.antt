@@ -20,8 +20,7 @@ use Rattle.run_steps.specs.declared.Stepping.the-variants as stepping
 use Rattle.run_steps.specs.Promises.{runAfter, RunAt, RunFinished, BeginPromise, StepPromise}
 use Rattle.run_blocks.specs.declared.Listing.{Listing}
 use Rattle.run_blocks.specs.declared.Listing.the-variants.{Rows, Refused}
-use Rattle.run_blocks.specs.Rows.{MarkOf, Marks}
-use Rattle.run_blocks.specs.Filling.{MarksWritten}
+use Rattle.run_blocks.specs.Rows.{MarkOf, Marks, MarksWritten}
 use Rattle.run_blocks.specs.Promises.{ShortRows, Block, RunAfterRows, ListsUntouched, RefusedList, ListPromise, ListMarkedPromise}
 use Rattle.theorems.specs.Determined.{SameLists}
 use Rattle.theorems.proofs.Runs.{stands-once, stands-not-over}

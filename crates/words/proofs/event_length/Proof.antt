@@ -3,7 +3,7 @@ use mathlib.Core.Path.{sym}
 use Prim.Native.Nat.{_-_}
 use native.Mathlib.Omega.{arith}
 use borrow.Author.Needs.{needs}
-use Rattle.words.proofs.Decimal.{decimal-length}
+use Rattle.words_decimals.proofs.Decimal.{decimal-length}
 use Rattle.words.proofs.Lettering.{event-one, event-jump}
 use Rattle.words.proofs.event_length.Statement.{statement}
 use Rattle.words.proofs.event_length.Tie as tie

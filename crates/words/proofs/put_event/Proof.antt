@@ -3,7 +3,7 @@ use mathlib.Core.Path.{ap, _∙_}
 use native.Mathlib.Omega.{arith}
 use lib.ListN.{length, length-set}
 use borrow.Author.Needs.{needs}
-use Rattle.words.proofs.Writing.{wrote-byte}
+use Rattle.words_decimals.proofs.Writing.{wrote-byte}
 use Rattle.words.proofs.Lettering.{event-one, event-jump, wrote-jump}
 use Rattle.words.proofs.put_event.Statement.{statement}
 use Rattle.words.proofs.put_event.Tie as tie

@@ -1,5 +1,6 @@
 -- B: refused 24 where the label is above 1,024; otherwise the stores are those of `alone-stands`.
 use borrow.Author.Needs.{needs}
+use native.Mathlib.Omega.{arith}
 use Rattle.words_reading.proofs.EventLaws.{alone-refused, alone-stands}
 use Rattle.words_reading.proofs.add_alone.Statement.{statement}
 use Rattle.words_reading.proofs.add_alone.Tie as tie
@@ -29,7 +30,7 @@ add-pair : tie.Need-add-pair
 add-pair c = search needs
 
 pair-requires : tie.Need-pair-requires
-pair-requires c κs = search needs
+pair-requires c κs = let (nx, pv, t, o) = c .before .before .before .pre .1 in let l = o .white-long in omega arith
 
 add-t7 : tie.Need-add-t7
 add-t7 c = search needs

@@ -56,7 +56,7 @@ add-pair : tie.Need-add-pair
 add-pair c = search needs
 
 pair-requires : tie.Need-pair-requires
-pair-requires c κs = search needs
+pair-requires c κs = let (t, o) = c .before .before .before .pre .1 in let l = o .white-long in omega arith
 
 add-x1 : tie.Need-add-x1
 add-x1 c = search needs

@@ -38,10 +38,10 @@ pair-requires : tie.Need-pair-requires
 pair-requires c κs =
     let (x0, t, o) = c .before .before .before .before .before .before .before .before .pre .1 in
     let g = pending-given _ _ _ _ _ _ t o (c .before .before .before .before .before .before .before .before .args .d) (omega arith) in
-    omega (arith, found (c .before .before .before .before) x0 t o .0, o .room)
+    omega (arith, found (c .before .before .before .before) x0 t o .0, o .room, o .white-long)
 
-sub-t16 : tie.Need-sub-t16
-sub-t16 c = search needs
+sub-t17 : tie.Need-sub-t17
+sub-t17 c = search needs
 
 returns-2 : tie.Need-returns-2
 returns-2 c = λ x0 t o w.
@@ -57,5 +57,5 @@ join-pending-spec =
     label-at-requires
     unhook-requires
     pair-requires
-    sub-t16
+    sub-t17
     returns-2)

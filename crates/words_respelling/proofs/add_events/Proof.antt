@@ -1,4 +1,4 @@
--- `extend` adds the items up to the word's end. The loop's invariant: the items before place i are drawn.
+-- `add_events` adds the items up to the word's end. The loop's invariant: the items before place i are spelled.
 use Prim.Native.Nat.{_-_, _≤_}
 use native.Mathlib.Omega.{arith}
 use lib.ListN.{length, take}

@@ -1,4 +1,4 @@
--- `put_in` moves the entries from a place on up by one, the uppermost first. The loop's invariant, `Rising`: those from place i on are moved.
+-- `insert_at` moves the entries from a place on up by one, the uppermost first. The loop's invariant, `Rising`: those from place i on are moved.
 use mathlib.Core.Path.{_≡_}
 use Prim.Native.Nat.{_≤_}
 use native.Mathlib.Omega.{arith}

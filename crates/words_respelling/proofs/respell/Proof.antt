@@ -1,7 +1,7 @@
--- `redraw` begins the word anew, or shortens the drawing to what is shared; then it extends it to the new word.
+-- `respell` begins the word anew, or takes the spelling back to what is shared; then it extends it to the new word.
 use borrow.Author.Needs.{needs}
 use native.Mathlib.Omega.{arith}
-use Rattle.words_respelling.proofs.Laws.{listed-some, first-spelt, first-room, drawn-begun, shares-some}
+use Rattle.words_respelling.proofs.Laws.{listed-some, first-spelt, first-room, spelling-begun, shares-some}
 use Rattle.words_respelling.proofs.respell.Statement.{statement}
 use Rattle.words_respelling.proofs.respell.Tie as tie
 
@@ -18,7 +18,7 @@ add-events-requires c κs =
     let pre = c .before .before .before .before .before .before .before .before .before .before .before .before .pre in
     let L = pre .1 .0 in
     let l = listed-some _ L in
-    (omega arith, l, L, drawn-begun _ L _ _ _ _ _ _ _ _ _ l (pre .0) (c .before .before .before .before .begin .ensures _ _ (first-spelt _ L) (first-room _ L _ _ _ _ (pre .0))))
+    (omega arith, l, L, spelling-begun _ L _ _ _ _ _ _ _ _ _ l (pre .0) (c .before .before .before .before .begin .ensures _ _ (first-spelt _ L) (first-room _ L _ _ _ _ (pre .0))))
 
 returns : tie.Need-returns
 returns c = search needs

@@ -1,8 +1,8 @@
--- `back` undoes the item's event: the law of the event taken back, at the label that was popped.
+-- `undo_event` undoes the item's event: the law of the event taken back, at the label that was popped.
 use borrow.Author.Needs.{needs}
 use native.Mathlib.Omega.{arith}
 use Rattle.words_spelling.proofs.Lists.{jump-item}
-use Rattle.words_respelling.proofs.Laws.{last, known-place, known-label, known-W, known-F, known-B, known-J, drawn-W, drawn-F, drawn-B, drawn-J}
+use Rattle.words_respelling.proofs.Laws.{last, known-place, known-label, known-W, known-F, known-B, known-J, spelling-W, spelling-F, spelling-B, spelling-J}
 use Rattle.words_respelling.proofs.undo_event.Statement.{statement}
 use Rattle.words_respelling.proofs.undo_event.Tie as tie
 
@@ -89,24 +89,24 @@ add-t37 c = search needs
 returns : tie.Need-returns
 returns c =
     let pre = c .before .before .before .before .before .pre in
-    λ s0 R. drawn-W _ _ _ _ _ _ _ _ (rw (c .match .keys1) at (last _ _ _ s0 _ _ _ _ (pre .0) (pre .1) R))
+    λ s0 R. spelling-W _ _ _ _ _ _ _ _ (rw (c .match .keys1) at (last _ _ _ s0 _ _ _ _ (pre .0) (pre .1) R))
 
 returns-2 : tie.Need-returns-2
 returns-2 c =
     let pre = c .before .before .before .before .before .pre in
-    λ s0 R. rw (c .before .before .to-index .ensures) (drawn-F _ _ _ _ _ _ _ _ (rw (c .match .keys2) at (last _ _ _ s0 _ _ _ _ (pre .0) (pre .1) R)))
+    λ s0 R. rw (c .before .before .to-index .ensures) (spelling-F _ _ _ _ _ _ _ _ (rw (c .match .keys2) at (last _ _ _ s0 _ _ _ _ (pre .0) (pre .1) R)))
 
 returns-3 : tie.Need-returns-3
 returns-3 c =
     let pre = c .before .before .before .before .before .pre in
-    λ s0 R. rw (c .before .before .to-index .ensures) (drawn-B _ _ _ _ _ _ _ _ (rw (c .match .keys3) at (last _ _ _ s0 _ _ _ _ (pre .0) (pre .1) R)))
+    λ s0 R. rw (c .before .before .to-index .ensures) (spelling-B _ _ _ _ _ _ _ _ (rw (c .match .keys3) at (last _ _ _ s0 _ _ _ _ (pre .0) (pre .1) R)))
 
 returns-4 : tie.Need-returns-4
 returns-4 c =
     let pre = c .before .before .before .before .before .before .before .before .before .pre in
     let m = c .before .before .before .before .match .rest in
     let e = jump-item _ _ (m .0 .0 .1) (m .0 .1) (m .1) (c .before .to-index2 .ensures) in
-    λ s0 R. drawn-J _ _ _ _ _ _ _ _ _ (rw e at (last _ _ _ s0 _ _ _ _ (pre .0) (pre .1) R)) _ _ (c .undo-join .ensures)
+    λ s0 R. spelling-J _ _ _ _ _ _ _ _ _ (rw e at (last _ _ _ s0 _ _ _ _ (pre .0) (pre .1) R)) _ _ (c .undo-join .ensures)
 
 pub undo-event-spec : {M : Type 1} → statement M
 undo-event-spec =

@@ -1,4 +1,4 @@
--- `shorten` takes the items back from the word's end. The loop's invariant: from where it started, the items before place i are drawn.
+-- `undo_from` takes the items back from the word's end. The loop's invariant: from where it started, the items before place i are spelled.
 use mathlib.Core.Path.{_≡_}
 use mathlib.Core.List.{List}
 use Prim.Native.Nat.{ℕ, _+_, _-_, _≤_}

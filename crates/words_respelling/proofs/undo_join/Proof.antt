@@ -1,4 +1,4 @@
--- `undo-join` parts the two labels and puts both back into the pile.
+-- `undo_join` parts the two labels and puts both back into the stack.
 use borrow.Author.Needs.{needs}
 use mathlib.Core.Path.{refl, _∙_}
 use Rattle.words_respelling.proofs.undo_join.Statement.{statement}

@@ -1,4 +1,4 @@
--- `part` puts back the entries of k and of its partner.
+-- `unpair` puts back the entries of k and of its partner.
 use borrow.Author.Needs.{needs}
 use native.Mathlib.Omega.{arith}
 use Rattle.words_respelling.proofs.Lists.{partner-in, partner-parted}

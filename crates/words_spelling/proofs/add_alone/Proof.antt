@@ -1,4 +1,4 @@
--- `add-alone` makes the three stores that its contract names.
+-- `add_alone` makes the three stores that its contract names.
 use borrow.Author.Needs.{needs}
 use native.Mathlib.Omega.{arith}
 use lib.ListN.{length-set}

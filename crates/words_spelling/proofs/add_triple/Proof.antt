@@ -1,4 +1,4 @@
--- `fork` makes the stores that its contract names.
+-- `add_triple` makes the stores that its contract names.
 use borrow.Author.Needs.{needs}
 use mathlib.Core.Path.{refl, _∙_}
 use native.Mathlib.Omega.{arith}

@@ -1,4 +1,4 @@
--- `begin` leaves the lists and the pile as U or T does (`midway-U`, `midway-T`).
+-- `begin` leaves the lists and the stack as U or T does (`midway-U`, `midway-T`).
 use borrow.Author.Needs.{needs}
 use native.Mathlib.Omega.{arith}
 use Rattle.words_spelling.proofs.Laws.{first-some, first-T, midway-U, midway-T}

@@ -1,4 +1,4 @@
--- `event` takes the lists and the pile from before an item to after it: the law of the item's event, at the label that is popped.
+-- `event` takes the lists and the stack from before an item to after it: the law of the item's event, at the label that is popped.
 use borrow.Author.Needs.{needs}
 use native.Mathlib.Omega.{arith}
 use mathlib.Core.Path.{refl}

@@ -1,4 +1,4 @@
--- `take_out` moves the entries above a place down by one. The loop's invariant, `Sliding`: those before place i are moved.
+-- `remove_at` moves the entries above a place down by one. The loop's invariant, `Sliding`: those before place i are moved.
 use mathlib.Core.Path.{_≡_}
 use Prim.Native.Nat.{_-_, _≤_}
 use native.Mathlib.Omega.{arith}

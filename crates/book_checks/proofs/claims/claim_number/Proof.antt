@@ -1,4 +1,4 @@
--- `claim_number` meets its contract: the book is tested first, so that the rest is asked of a sound one.
+-- `claim_number` meets its contract: the book is tested first, so that the rest is tested of a valid one.
 use borrow.Author.Needs.{needs}
 use mathlib.Core.Path.{refl, sym, _∙_}
 use Rattle.book.specs.Calls.{tick-in, claim-number}
@@ -10,7 +10,7 @@ use Rattle.book_checks.proofs.claims.claim_number.Lts as lts
 use Rattle.book_checks.proofs.claims.place_number.Reads as place-number-reads
 use Rattle.book_checks.proofs.standing.tick_in.Reads as tick-in-reads
 use Rattle.book_validity.proofs.sound.Reads as sound-reads
-use Rattle.book_validity.proofs.tests.unless.Reads as unless-reads
+use Rattle.book_shares.proofs.tests.unless.Reads as unless-reads
 
 sound-requires : tie.Need-sound-requires
 sound-requires c κs = search needs

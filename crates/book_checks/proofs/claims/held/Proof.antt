@@ -4,22 +4,18 @@ use Rattle.book_checks.proofs.claims.held.Statement.{statement}
 use Rattle.book_checks.proofs.claims.held.Tie as tie
 use Rattle.book_checks.proofs.claims.held.Reads as reads
 use Rattle.book_checks.proofs.claims.held.Lts as lts
-use Rattle.book_validity.proofs.tests.both.Reads as both-reads
-use Rattle.book_validity.proofs.tests.not.Reads as not-reads
+use Rattle.book_shares.proofs.tests.both.Reads as both-reads
+use Rattle.book_shares.proofs.tests.not.Reads as not-reads
 
--- src/claims.rt:23:10
 not-requires : tie.Need-not-requires
 not-requires c κs = search needs
 
--- src/claims.rt:23:23
 not-requires-2 : tie.Need-not-requires-2
 not-requires-2 c κs = search needs
 
--- src/claims.rt:23:5
 both-requires : tie.Need-both-requires
 both-requires c κs = search needs
 
--- src/claims.rt:20:1
 returns : tie.Need-returns
 returns c = rw (c .both .ensures, c .before .not2 .ensures, c .before .before .not .ensures)
 

@@ -1,9 +1,9 @@
--- `share_number` meets its contract: a sound book has its share among 32 entries; the tests are then the definition's.
+-- `share_number` meets its contract: a valid book has its share among 32 entries; the tests are then the definition's.
 use borrow.Author.Needs.{needs}
 use native.Mathlib.Omega.{arith}
 use denote.Ref.{now}
 use Rattle.book.specs.declared.types.Book.{Book}
-use Rattle.book_validity.specs.Entries.{bookWith}
+use Rattle.book_entries.specs.Entries.{bookWith}
 use Rattle.lists.specs.Ranges.{OneTo}
 use Rattle.book.specs.Shares.{finished, lapsed}
 use Rattle.book.specs.Calls.{held}
@@ -14,10 +14,10 @@ use Rattle.book_checks.proofs.claims.share_number.Tie as tie
 use Rattle.book_checks.proofs.claims.share_number.Reads as reads
 use Rattle.book_checks.proofs.claims.share_number.Lts as lts
 use Rattle.book_checks.proofs.claims.held.Reads as held-reads
-use Rattle.book_validity.proofs.shares.entry.Reads as entry-reads
-use Rattle.book_validity.proofs.shares.past.Reads as past-reads
-use Rattle.book_validity.proofs.tests.not.Reads as not-reads
-use Rattle.book_validity.proofs.tests.unless.Reads as unless-reads
+use Rattle.book_shares.proofs.entry.Reads as entry-reads
+use Rattle.book_shares.proofs.past.Reads as past-reads
+use Rattle.book_shares.proofs.tests.not.Reads as not-reads
+use Rattle.book_shares.proofs.tests.unless.Reads as unless-reads
 
 -- the book that is looked at
 abbrev lent : tie.Start → Book

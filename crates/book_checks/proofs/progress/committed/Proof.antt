@@ -5,7 +5,7 @@ use native.Mathlib.Numerals.{add-one}
 use native.Mathlib.Omega.{arith}
 use denote.Ref.{now}
 use Rattle.book.specs.declared.types.Book.{Book}
-use Rattle.book_validity.specs.Entries.{bookWith}
+use Rattle.book_entries.specs.Entries.{bookWith}
 use Rattle.book.specs.Shares as shares
 use Rattle.book.specs.Shares.{first, last, next, done, committed}
 use Rattle.book.proofs.SoundBook.{SoundBook, sound-facts}
@@ -14,8 +14,8 @@ use Rattle.book_checks.proofs.progress.committed.Statement.{statement}
 use Rattle.book_checks.proofs.progress.committed.Tie as tie
 use Rattle.book_checks.proofs.progress.committed.Reads as reads
 use Rattle.book_checks.proofs.progress.committed.Lts as lts
-use Rattle.book_validity.proofs.shares.count_of.Reads as count-of-reads
-use Rattle.book_validity.proofs.shares.last_of.Reads as last-of-reads
+use Rattle.book_shares.proofs.count_of.Reads as count-of-reads
+use Rattle.book_shares.proofs.last_of.Reads as last-of-reads
 
 -- the committed positions of shares 1..i
 record Counted (b : Book) (i sum : ℕ) : Type 0 where

@@ -8,7 +8,7 @@ use Rattle.lists.specs.Ranges.{every}
 use Rattle.lists.proofs.Tests.{lt-true, lt-false}
 use denote.Ref.{now}
 use Rattle.book.specs.declared.types.Book.{Book}
-use Rattle.book_validity.specs.Entries.{bookWith}
+use Rattle.book_entries.specs.Entries.{bookWith}
 use Rattle.book.specs.Shares.{last, next, finished, complete}
 use Rattle.book.proofs.Entries.{every-false}
 use Rattle.book.proofs.SoundBook.{sound-facts}
@@ -16,8 +16,8 @@ use Rattle.book_checks.proofs.progress.complete.Statement.{statement}
 use Rattle.book_checks.proofs.progress.complete.Tie as tie
 use Rattle.book_checks.proofs.progress.complete.Reads as reads
 use Rattle.book_checks.proofs.progress.complete.Lts as lts
-use Rattle.book_validity.proofs.shares.count_of.Reads as count-of-reads
-use Rattle.book_validity.proofs.shares.last_of.Reads as last-of-reads
+use Rattle.book_shares.proofs.count_of.Reads as count-of-reads
+use Rattle.book_shares.proofs.last_of.Reads as last-of-reads
 
 -- share i + 1 is not finished, or is
 one-left : (b : Book) (i r : ℕ) → i < b .shares → r ≡ last (b .size) (b .shares) (i + 1) → next b (suc i) ≤ r → complete b ≡ false

@@ -1,4 +1,4 @@
--- `ask` meets its contract: what is asked in turn, each of a book that has passed what came before.
+-- `ask` meets its contract: the tests in turn, each of a book that has passed those before.
 use borrow.Author.Needs.{needs}
 use mathlib.Core.Path.{_≡_, sym, _∙_}
 use mathlib.Core.Logic.{_≢_}
@@ -11,7 +11,7 @@ use Rattle.lists.specs.Ranges.{OneTo}
 use Rattle.lists.proofs.Tests.{eqb-eq, eqb-ne, le-true, le-false}
 use denote.Ref.{now}
 use Rattle.book.specs.declared.types.Book.{Book}
-use Rattle.book_validity.specs.Entries.{bookWith}
+use Rattle.book_entries.specs.Entries.{bookWith}
 use Rattle.book.specs.Shares.{expiry, holder, lapsed}
 use Rattle.book.specs.Sound.{both, sound}
 use Rattle.book.specs.Calls.{tick-in, ticket-number}
@@ -21,7 +21,7 @@ use Rattle.book_checks.proofs.standing.ask.Statement.{statement}
 use Rattle.book_checks.proofs.standing.ask.Tie as tie
 use Rattle.book_checks.proofs.standing.ask.Reads as reads
 use Rattle.book_checks.proofs.standing.ask.Lts as lts
-use Rattle.book_validity.proofs.shares.entry.Reads as entry-reads
+use Rattle.book_shares.proofs.entry.Reads as entry-reads
 use Rattle.book_validity.proofs.sound.Reads as sound-reads
 use Rattle.book_checks.proofs.standing.holder.Reads as holder-reads
 use Rattle.book_checks.proofs.standing.tick_in.Reads as tick-in-reads

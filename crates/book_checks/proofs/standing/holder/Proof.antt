@@ -9,7 +9,7 @@ use Rattle.lists.proofs.Tests.{eqb-eq, eqb-ne}
 use denote.Ref.{now}
 use Rattle.book.specs.declared.types.Book.{Book}
 use Rattle.book.specs.declared.types.Heads.{Heads}
-use Rattle.book_validity.specs.Entries.{bookWith}
+use Rattle.book_entries.specs.Entries.{bookWith}
 use Rattle.book.specs.Shares.{standing, holder}
 use Rattle.book_checks.proofs.standing.holder.Statement.{statement}
 use Rattle.book_checks.proofs.standing.holder.Tie as tie

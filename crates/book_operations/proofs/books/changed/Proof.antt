@@ -1,3 +1,4 @@
+-- `changed` meets its contract, by the change's cases.
 use borrow.Author.Needs.{needs}
 use mathlib.Core.Path.{sym, ap, _∙_}
 use Rattle.book.specs.declared.types.Change.{Change}

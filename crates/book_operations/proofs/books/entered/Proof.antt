@@ -1,3 +1,4 @@
+-- `entered` meets its contract: entry j - 1 of an array is entry j of its list.
 use borrow.Author.Needs.{needs}
 use Rattle.book.specs.Calls.{entered}
 use Rattle.lists.proofs.Lists.{put-place}
@@ -6,35 +7,27 @@ use Rattle.book_operations.proofs.books.entered.Tie as tie
 use Rattle.book_operations.proofs.books.entered.Reads as reads
 use Rattle.book_operations.proofs.books.entered.Lts as lts
 
--- src/books.rt:53:15
 sub-at : tie.Need-sub-at
 sub-at c = search needs
 
--- src/books.rt:56:5
 mul-b : tie.Need-mul-b
 mul-b c = search needs
 
--- src/books.rt:56:5
 element-write-b : tie.Need-element-write-b
 element-write-b c = search needs
 
--- src/books.rt:57:5
 mul-b-2 : tie.Need-mul-b-2
 mul-b-2 c = search needs
 
--- src/books.rt:57:5
 element-write-b-2 : tie.Need-element-write-b-2
 element-write-b-2 c = search needs
 
--- src/books.rt:58:5
 mul-b-3 : tie.Need-mul-b-3
 mul-b-3 c = search needs
 
--- src/books.rt:58:5
 element-write-b-3 : tie.Need-element-write-b-3
 element-write-b-3 c = search needs
 
--- src/books.rt:48:1
 returns : tie.Need-returns
 returns c = let a = c .args in unfold entered in (rw (put-place (a .b .next) (a .j) (a .p) (c .pre .0), put-place (a .b .ticket) (a .j) (a .t) (c .pre .0), put-place (a .b .expiry) (a .j) (a .e) (c .pre .0)))
 

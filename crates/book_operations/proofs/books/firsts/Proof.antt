@@ -1,3 +1,4 @@
+-- `firsts` meets its contract: after i turns of the loop the first i entries are the shares' first positions, the others 0.
 use mathlib.Core.Path.{_≡_, refl, sym, _∙_}
 use mathlib.Core.Logic.{_≢_, _⊎_, inl, inr}
 use mathlib.Core.Bool.{cond}
@@ -17,7 +18,7 @@ use Rattle.book_operations.proofs.books.firsts.Statement.{statement}
 use Rattle.book_operations.proofs.books.firsts.Tie as tie
 use Rattle.book_operations.proofs.books.firsts.Reads as reads
 use Rattle.book_operations.proofs.books.firsts.Lts as lts
-use Rattle.book_validity.proofs.shares.last_of.Reads as last-of-reads
+use Rattle.book_shares.proofs.last_of.Reads as last-of-reads
 
 -- the first i places hold first positions, the others 0
 record Filled (total k : ℕ) (next : List ℕ) (i : ℕ) : Type 0 where
@@ -61,39 +62,30 @@ Inv-loop total k next₀ i₀ next i = (i ≤ k) × Filled total k next i
 abbrev μ-loop : tie.MeasureT-loop
 μ-loop total k next₀ i₀ next i = k - i
 
--- src/books.rt:23:5
 loop-holds : tie.Need-loop-holds Inv-loop μ-loop
 loop-holds c = (omega arith, start (c .args .total) (c .args .k))
 
--- src/books.rt:24:28
 last-of-requires : tie.Need-last-of-requires Inv-loop μ-loop
 last-of-requires c κs = (c .before .before .pre .0, c .before .before .pre .1, omega arith)
 
--- src/books.rt:24:28
 add-next : tie.Need-add-next Inv-loop μ-loop
 add-next c = omega arith
 
--- src/books.rt:24:9
 mul-next : tie.Need-mul-next Inv-loop μ-loop
 mul-next c = omega arith
 
--- src/books.rt:24:9
 array-write-next : tie.Need-array-write-next Inv-loop μ-loop
 array-write-next c = omega arith
 
--- src/books.rt:25:9
 add-i : tie.Need-add-i Inv-loop μ-loop
 add-i c = omega arith
 
--- src/books.rt:23:5
 loop-less : tie.Need-loop-less Inv-loop μ-loop
 loop-less c = omega arith
 
--- src/books.rt:23:5
 loop-again : tie.Need-loop-again Inv-loop μ-loop
 loop-again c = let a = c .before .before .before in (omega arith, further (a .args .total) (a .args .k) (c .before .before .loop .next) (c .before .before .loop .i) (c .last-of .result) (omega arith) (c .last-of .ensures .0) (c .before .before .loop .inv .1))
 
--- src/books.rt:17:1
 returns : tie.Need-returns Inv-loop μ-loop
 returns c n e = let a = c .before .before in whole (a .args .total) (a .args .k) (c .before .loop .next) (c .before .loop .i) n e (c .loop-test .left) (c .before .loop .inv .0) (c .before .loop .inv .1)
 

@@ -1,3 +1,4 @@
+-- `opened` meets its contract: the first positions, and no ticket.
 use borrow.Author.Needs.{needs}
 use Rattle.book.specs.Calls.{opened}
 use Rattle.book_operations.proofs.books.opened.Statement.{statement}
@@ -5,17 +6,14 @@ use Rattle.book_operations.proofs.books.opened.Tie as tie
 use Rattle.book_operations.proofs.books.opened.Reads as reads
 use Rattle.book_operations.proofs.books.opened.Lts as lts
 use Rattle.book_operations.proofs.books.firsts.Reads as firsts-reads
-use Rattle.book_validity.proofs.shares.count_of.Reads as count-of-reads
+use Rattle.book_shares.proofs.count_of.Reads as count-of-reads
 
--- src/books.rt:34:23
 count-of-requires : tie.Need-count-of-requires
 count-of-requires c κs = search needs
 
--- src/books.rt:34:9
 firsts-requires : tie.Need-firsts-requires
 firsts-requires c κs = search needs
 
--- src/books.rt:30:1
 returns : tie.Need-returns
 returns c = unfold opened in (rw (c .firsts .ensures (c .before .before .args .size) (c .before .count-of .ensures .0)))
 

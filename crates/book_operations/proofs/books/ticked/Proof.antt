@@ -1,3 +1,4 @@
+-- `ticked` meets its contract.
 use mathlib.Core.Path.{refl}
 use Rattle.book.specs.Calls.{ticked}
 use Rattle.book_operations.proofs.books.ticked.Statement.{statement}
@@ -5,7 +6,6 @@ use Rattle.book_operations.proofs.books.ticked.Tie as tie
 use Rattle.book_operations.proofs.books.ticked.Reads as reads
 use Rattle.book_operations.proofs.books.ticked.Lts as lts
 
--- src/books.rt:63:1
 returns : tie.Need-returns
 returns c = unfold ticked in refl
 

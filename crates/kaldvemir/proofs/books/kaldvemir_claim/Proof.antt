@@ -8,35 +8,17 @@ use Rattle.kaldvemir.proofs.books.kaldvemir_claim.Tie as tie
 heads-requires : tie.Need-heads-requires
 heads-requires c κs = search needs
 
-sub-claim : tie.Need-sub-claim
-sub-claim c = search needs
+nexts-requires : tie.Need-nexts-requires
+nexts-requires c κs = search needs
 
-part-claim-start : tie.Need-part-claim-start
-part-claim-start c = search needs
+tickets-requires : tie.Need-tickets-requires
+tickets-requires c κs = search needs
 
-part-claim-end : tie.Need-part-claim-end
-part-claim-end c = search needs
-
-sub-claim-2 : tie.Need-sub-claim-2
-sub-claim-2 c = search needs
-
-part-claim-start-2 : tie.Need-part-claim-start-2
-part-claim-start-2 c = search needs
-
-part-claim-end-2 : tie.Need-part-claim-end-2
-part-claim-end-2 c = search needs
-
-sub-claim-3 : tie.Need-sub-claim-3
-sub-claim-3 c = search needs
-
-part-claim-start-3 : tie.Need-part-claim-start-3
-part-claim-start-3 c = search needs
-
-part-claim-end-3 : tie.Need-part-claim-end-3
-part-claim-end-3 c = search needs
+expiries-requires : tie.Need-expiries-requires
+expiries-requires c κs = search needs
 
 claim-requires : tie.Need-claim-requires
-claim-requires c κs = search needs
+claim-requires c κs = (c .before .before .nexts .ensures .1, c .before .tickets .ensures .1, c .expiries .ensures .1)
 
 change-requires : tie.Need-change-requires
 change-requires c κs = search needs
@@ -46,7 +28,8 @@ claim-answer-requires c κs = search needs
 
 returns : tie.Need-returns
 returns c =
-    let k = rw (c .before .before .before .before .before .before .before .before .heads .ensures) at (c .before .before .before .before .claim .ensures) in
+    let x = c .before .before .before .before in
+    let k = rw (x .before .before .before .before .heads .ensures, x .before .before .before .nexts .ensures .0, x .before .before .tickets .ensures .0, x .before .expiries .ensures .0) at (x .claim .ensures) in
     let a = rw (k .0) at (c .claim-answer .ensures) in
     (a .0, a .1, c .before .before .change .ensures ∙ ap book-numbers (k .1))
 
@@ -55,15 +38,9 @@ kaldvemir-claim-spec =
     tie.close
     (tie.spec
     heads-requires
-    sub-claim
-    part-claim-start
-    part-claim-end
-    sub-claim-2
-    part-claim-start-2
-    part-claim-end-2
-    sub-claim-3
-    part-claim-start-3
-    part-claim-end-3
+    nexts-requires
+    tickets-requires
+    expiries-requires
     claim-requires
     change-requires
     claim-answer-requires

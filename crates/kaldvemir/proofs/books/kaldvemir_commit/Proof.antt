@@ -1,7 +1,7 @@
 -- `kaldvemir_commit` meets its contract: the decision on the parts of the 100 numbers, and the change written back.
 use mathlib.Core.Path.{_∙_, ap}
 use Rattle.kaldvemir_layout.specs.Layout.{book-numbers}
-use Rattle.kaldvemir.specs.Answers as answers
+use Rattle.kaldvemir_answers.specs.Answers as answers
 use borrow.Author.Needs.{needs}
 use Rattle.kaldvemir.proofs.books.kaldvemir_commit.Statement.{statement}
 use Rattle.kaldvemir.proofs.books.kaldvemir_commit.Tie as tie
@@ -9,35 +9,17 @@ use Rattle.kaldvemir.proofs.books.kaldvemir_commit.Tie as tie
 heads-requires : tie.Need-heads-requires
 heads-requires c κs = search needs
 
-sub-commit : tie.Need-sub-commit
-sub-commit c = search needs
+nexts-requires : tie.Need-nexts-requires
+nexts-requires c κs = search needs
 
-part-commit-start : tie.Need-part-commit-start
-part-commit-start c = search needs
+tickets-requires : tie.Need-tickets-requires
+tickets-requires c κs = search needs
 
-part-commit-end : tie.Need-part-commit-end
-part-commit-end c = search needs
-
-sub-commit-2 : tie.Need-sub-commit-2
-sub-commit-2 c = search needs
-
-part-commit-start-2 : tie.Need-part-commit-start-2
-part-commit-start-2 c = search needs
-
-part-commit-end-2 : tie.Need-part-commit-end-2
-part-commit-end-2 c = search needs
-
-sub-commit-3 : tie.Need-sub-commit-3
-sub-commit-3 c = search needs
-
-part-commit-start-3 : tie.Need-part-commit-start-3
-part-commit-start-3 c = search needs
-
-part-commit-end-3 : tie.Need-part-commit-end-3
-part-commit-end-3 c = search needs
+expiries-requires : tie.Need-expiries-requires
+expiries-requires c κs = search needs
 
 commit-requires : tie.Need-commit-requires
-commit-requires c κs = search needs
+commit-requires c κs = (c .before .before .nexts .ensures .1, c .before .tickets .ensures .1, c .expiries .ensures .1)
 
 change-requires : tie.Need-change-requires
 change-requires c κs = search needs
@@ -47,7 +29,8 @@ commit-answer-requires c κs = search needs
 
 returns : tie.Need-returns
 returns c =
-    let k = rw (c .before .before .before .before .before .before .before .heads .ensures) at (c .before .before .before .commit .ensures) in
+    let x = c .before .before .before in
+    let k = rw (x .before .before .before .before .heads .ensures, x .before .before .before .nexts .ensures .0, x .before .before .tickets .ensures .0, x .before .expiries .ensures .0) at (x .commit .ensures) in
     (c .commit-answer .ensures ∙ ap answers.committing-number (k .0), c .before .change .ensures ∙ ap book-numbers (k .1))
 
 pub kaldvemir-commit-spec : {M : Type 1} → statement M
@@ -55,15 +38,9 @@ kaldvemir-commit-spec =
     tie.close
     (tie.spec
     heads-requires
-    sub-commit
-    part-commit-start
-    part-commit-end
-    sub-commit-2
-    part-commit-start-2
-    part-commit-end-2
-    sub-commit-3
-    part-commit-start-3
-    part-commit-end-3
+    nexts-requires
+    tickets-requires
+    expiries-requires
     commit-requires
     change-requires
     commit-answer-requires

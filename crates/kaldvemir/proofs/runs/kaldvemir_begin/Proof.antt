@@ -1,3 +1,4 @@
+-- `kaldvemir_begin` meets its contract: the numbers of a fresh run are its size and zeros.
 use native.Mathlib.Omega.{arith}
 use Rattle.run_steps.specs.declared.Beginning.the-variants.{Begun, Refused}
 use Rattle.kaldvemir_layout.specs.Layout.{run-numbers}
@@ -9,35 +10,28 @@ use Rattle.kaldvemir.proofs.runs.kaldvemir_begin.Reads as reads
 use Rattle.kaldvemir.proofs.runs.kaldvemir_begin.Lts as lts
 use Rattle.run_steps.proofs.begin.Reads as begin-reads
 
--- src/runs.rt:74:9
 begin-requires : tie.Need-begin-requires
 begin-requires c κs = search needs
 
--- src/runs.rt:77:28
 enum-known-answer : tie.Need-enum-known-answer
 enum-known-answer c = search needs
 
--- src/runs.rt:79:17
 enum-told : tie.Need-enum-told
 enum-told c = search needs
 
--- src/runs.rt:80:26
 cast-numbers : tie.Need-cast-numbers
 cast-numbers c =
     let k = rw (c .enum-told .given .1) at (c .before .before .begin .ensures) in
     record { fits = omega (arith, k .0) }
 
--- src/runs.rt:80:13
 array-write-numbers : tie.Need-array-write-numbers
 array-write-numbers c = search needs
 
--- src/runs.rt:67:1
 returns : tie.Need-returns
 returns c =
     let k = rw (c .before .answer .given .1) at (c .before .before .before .begin .ensures) in
     (Refused (c .before .answer .given .0 .0), c .before .before .before .begin .result .run, k, refl, refl)
 
--- src/runs.rt:67:1
 returns-2 : tie.Need-returns-2
 returns-2 c =
     let k = rw (c .enum-told .given .1) at (c .before .before .begin .ensures) in

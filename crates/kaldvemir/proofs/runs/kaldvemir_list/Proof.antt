@@ -1,91 +1,44 @@
-use mathlib.Core.Path.{_≡_, refl, sym, _∙_, ap}
-use native.Mathlib.Omega.{arith}
-use Rattle.run_blocks.specs.declared.Listing.the-variants.{Rows, Refused}
-use Rattle.kaldvemir_layout.specs.Layout.{run-numbers}
-use Rattle.kaldvemir_layout.proofs.Rows.{run-again}
-use Rattle.kaldvemir.proofs.Blocks.{rows-fit, fitting-numbers}
+-- `kaldvemir_list` meets its contract: the numbers that the answer leaves are those of the listing's run.
+use mathlib.Core.Path.{_∙_}
 use borrow.Author.Needs.{needs}
+use Rattle.kaldvemir.proofs.Blocks.{left-fits, left-numbers, list-left}
 use Rattle.kaldvemir.proofs.runs.kaldvemir_list.Statement.{statement}
 use Rattle.kaldvemir.proofs.runs.kaldvemir_list.Tie as tie
-use Rattle.kaldvemir.proofs.runs.kaldvemir_list.Reads as reads
-use Rattle.kaldvemir.proofs.runs.kaldvemir_list.Lts as lts
-use Rattle.kaldvemir_layout.proofs.runs.held.Reads as held-reads
-use Rattle.kaldvemir_layout.proofs.runs.put_back.Reads as put-back-reads
-use Rattle.run_blocks.proofs.list.Reads as list-reads
 
--- src/runs.rt:89:32
 held-requires : tie.Need-held-requires
 held-requires c κs = search needs
 
--- src/runs.rt:89:9
 list-requires : tie.Need-list-requires
 list-requires c κs = search needs
 
--- src/runs.rt:94:26
-enum-known-answer : tie.Need-enum-known-answer
-enum-known-answer c = search needs
+list-answer-requires : tie.Need-list-answer-requires
+list-answer-requires c κs =
+    let x = c .before .before .before .before .before .before .before .before .before .before .before .before .before .before .before .before .before .before .before .before .before .before .args in
+    let l = x .run .now in
+    let d = c .before .before .before .before .before .before .before .before .before .before .before .list in
+    let h = c .before .before .before .before .before .before .before .before .before .before .before .before .before .before .before .before .held .ensures in
+    (h .1, left-fits l (d .result .run) (d .result .answer) (list-left l (x .rows) (d .result .run) (x .s0 .now) (x .s1 .now) (x .words .now) (x .lengths .now) (d .last .1 .1 .0) (d .last .1 .1 .1 .0) (d .last .1 .1 .1 .1 .0) (d .last .1 .1 .1 .1 .1 .0) (d .result .answer) (rw (h .0) at (d .ensures))))
 
--- src/runs.rt:95:23
-enum-known-answer-2 : tie.Need-enum-known-answer-2
-enum-known-answer-2 c = search needs
-
--- src/runs.rt:96:27
-cast-put-back : tie.Need-cast-put-back
-cast-put-back c = let f = rows-fit (c .before .before .before .before .before .before .before .before .before .before .before .before .before .before .before .before .before .before .before .before .before .before .before .before .before .before .args .run .now) _ _ (c .before .before .before .before .before .before .before .before .before .before .before .before .before .before .before .list .result .run) _ _ _ _ _ _ _ _ (rw (c .before .before .before .answer2 .given .1) at (rw (c .before .before .before .before .before .before .before .before .before .before .before .before .before .before .before .before .before .before .before .before .held .ensures .0) at (c .before .before .before .before .before .before .before .before .before .before .before .before .before .before .before .list .ensures))) in record { fits = omega (arith, f .stage-small) }
-
--- src/runs.rt:96:46
-cast-put-back-2 : tie.Need-cast-put-back-2
-cast-put-back-2 c = let f = rows-fit (c .before .before .before .before .before .before .before .before .before .before .before .before .before .before .before .before .before .before .before .before .before .before .before .before .before .before .before .args .run .now) _ _ (c .before .before .before .before .before .before .before .before .before .before .before .before .before .before .before .before .list .result .run) _ _ _ _ _ _ _ _ (rw (c .before .before .before .before .answer2 .given .1) at (rw (c .before .before .before .before .before .before .before .before .before .before .before .before .before .before .before .before .before .before .before .before .before .held .ensures .0) at (c .before .before .before .before .before .before .before .before .before .before .before .before .before .before .before .before .list .ensures))) in record { fits = omega (arith, f .length-small) }
-
--- src/runs.rt:96:13
-put-back-requires : tie.Need-put-back-requires
-put-back-requires c κs = search needs
-
--- src/runs.rt:72:1
 same-length : tie.Need-same-length
 same-length c = search needs
 
--- src/runs.rt:72:1
 same-length-2 : tie.Need-same-length-2
 same-length-2 c = search needs
 
--- src/runs.rt:72:1
 same-length-3 : tie.Need-same-length-3
 same-length-3 c = search needs
 
--- src/runs.rt:72:1
 same-length-4 : tie.Need-same-length-4
 same-length-4 c = search needs
 
--- src/runs.rt:72:1
 returns : tie.Need-returns
 returns c =
-    let l = c .before .before .before .before .before .before .before .before .before .before .before .before .before .before .before .before .before .before .before .before .before .before .before .before .args .run .now in
-    let s = rw (c .before .answer .given .1) at (rw (c .before .before .before .before .before .before .before .before .before .before .before .before .before .before .before .before .before .before .held .ensures .0) at (c .before .before .before .before .before .before .before .before .before .before .before .before .before .list .ensures)) in
-    (Refused (c .before .answer .given .0 .0), c .before .before .before .before .before .before .before .before .before .before .before .before .before .list .result .run, s, refl, refl, sym (ap run-numbers (s .1) ∙ run-again l (c .before .before .before .before .before .before .before .before .before .before .before .before .before .before .before .before .before .before .held .ensures .1)))
-
--- src/runs.rt:72:1
-same-length-5 : tie.Need-same-length-5
-same-length-5 c = search needs
-
--- src/runs.rt:72:1
-same-length-6 : tie.Need-same-length-6
-same-length-6 c = search needs
-
--- src/runs.rt:72:1
-same-length-7 : tie.Need-same-length-7
-same-length-7 c = search needs
-
--- src/runs.rt:72:1
-same-length-8 : tie.Need-same-length-8
-same-length-8 c = search needs
-
--- src/runs.rt:72:1
-returns-2 : tie.Need-returns-2
-returns-2 c =
-    let s = rw (c .before .before .before .before .before .answer2 .given .1) at (rw (c .before .before .before .before .before .before .before .before .before .before .before .before .before .before .before .before .before .before .before .before .before .before .held .ensures .0) at (c .before .before .before .before .before .before .before .before .before .before .before .before .before .before .before .before .before .list .ensures)) in
-    let f = rows-fit (c .before .before .before .before .before .before .before .before .before .before .before .before .before .before .before .before .before .before .before .before .before .before .before .before .before .before .before .before .args .run .now) _ _ (c .before .before .before .before .before .before .before .before .before .before .before .before .before .before .before .before .before .list .result .run) _ _ _ _ _ _ _ _ s in
-    (Rows (c .before .before .before .before .before .answer2 .given .0 .0), c .before .before .before .before .before .before .before .before .before .before .before .before .before .before .before .before .before .list .result .run, s, refl, refl, c .put-back .ensures ∙ fitting-numbers (c .before .before .before .before .before .before .before .before .before .before .before .before .before .before .before .before .before .before .before .before .before .before .before .before .before .before .before .before .args .run .now) (c .before .before .before .before .before .before .before .before .before .before .before .before .before .before .before .before .before .list .result .run) f)
+    let x = c .before .before .before .before .before .before .before .before .before .before .before .before .before .before .before .before .before .before .before .before .before .before .before .args in
+    let l = x .run .now in
+    let h = c .before .before .before .before .before .before .before .before .before .before .before .before .before .before .before .before .before .held .ensures in
+    let d = c .before .before .before .before .before .before .before .before .before .before .before .before .list in
+    let s = rw (h .0) at (d .ensures) in
+    (d .result .answer, d .result .run, s, c .list-answer .ensures .0, c .list-answer .ensures .1, c .list-answer .ensures .2 ∙ left-numbers l (d .result .run) (d .result .answer) (h .1) (list-left l (x .rows) (d .result .run) (x .s0 .now) (x .s1 .now) (x .words .now) (x .lengths .now) (d .last .1 .1 .0) (d .last .1 .1 .1 .0) (d .last .1 .1 .1 .1 .0) (d .last .1 .1 .1 .1 .1 .0) (d .result .answer) s))
 
 pub kaldvemir-list-spec : {M : Type 1} → statement M
 kaldvemir-list-spec =
@@ -93,18 +46,9 @@ kaldvemir-list-spec =
     (tie.spec
     held-requires
     list-requires
-    enum-known-answer
-    enum-known-answer-2
-    cast-put-back
-    cast-put-back-2
-    put-back-requires
+    list-answer-requires
     same-length
     same-length-2
     same-length-3
     same-length-4
-    returns
-    same-length-5
-    same-length-6
-    same-length-7
-    same-length-8
-    returns-2)
+    returns)

@@ -13,35 +13,27 @@ use Rattle.kaldvemir_layout.proofs.books.put_back.Reads as reads
 use Rattle.kaldvemir_layout.proofs.books.put_back.Lts as lts
 use Rattle.kaldvemir_layout.proofs.books.put_part.Reads as put-part-reads
 
--- src/books.rt:79:5
 element-write-numbers : tie.Need-element-write-numbers
 element-write-numbers c = search needs
 
--- src/books.rt:80:5
 element-write-numbers-2 : tie.Need-element-write-numbers-2
 element-write-numbers-2 c = search needs
 
--- src/books.rt:81:5
 element-write-numbers-3 : tie.Need-element-write-numbers-3
 element-write-numbers-3 c = search needs
 
--- src/books.rt:82:5
 element-write-numbers-4 : tie.Need-element-write-numbers-4
 element-write-numbers-4 c = search needs
 
--- src/books.rt:86:5
 put-part-requires : tie.Need-put-part-requires
 put-part-requires c κs = search needs
 
--- src/books.rt:87:5
 put-part-requires-2 : tie.Need-put-part-requires-2
 put-part-requires-2 c κs = (ap length (c .before .before .put-part .ensures) ∙ pasted (set (set (set (set (c .before .before .before .before .before .before .before .before .args .numbers .now) 0 (c .before .before .before .before .before .before .before .before .args .b .size)) 1 (c .before .before .before .before .before .before .before .before .args .b .shares)) 2 (c .before .before .before .before .before .before .before .before .args .b .latest)) 3 (c .before .before .before .before .before .before .before .before .args .b .issued)) (c .before .before .before .before .before .before .before .before .args .b .next) 4 (headed (c .before .before .before .before .before .before .before .before .args .numbers .now) (c .before .before .before .before .before .before .before .before .args .b .size) (c .before .before .before .before .before .before .before .before .args .b .shares) (c .before .before .before .before .before .before .before .before .args .b .latest) (c .before .before .before .before .before .before .before .before .args .b .issued) (c .before .before .before .before .before .before .before .before .pre)) (search needs) (omega arith), search needs, omega arith)
 
--- src/books.rt:88:5
 put-part-requires-3 : tie.Need-put-part-requires-3
 put-part-requires-3 c κs = (ap length (c .before .before .put-part2 .ensures) ∙ pasted (c .before .before .before .before .before .put-part .last .0) (c .before .before .before .before .before .before .before .before .before .before .before .args .b .ticket) 36 (ap length (c .before .before .before .before .before .put-part .ensures) ∙ pasted (set (set (set (set (c .before .before .before .before .before .before .before .before .before .before .before .args .numbers .now) 0 (c .before .before .before .before .before .before .before .before .before .before .before .args .b .size)) 1 (c .before .before .before .before .before .before .before .before .before .before .before .args .b .shares)) 2 (c .before .before .before .before .before .before .before .before .before .before .before .args .b .latest)) 3 (c .before .before .before .before .before .before .before .before .before .before .before .args .b .issued)) (c .before .before .before .before .before .before .before .before .before .before .before .args .b .next) 4 (headed (c .before .before .before .before .before .before .before .before .before .before .before .args .numbers .now) (c .before .before .before .before .before .before .before .before .before .before .before .args .b .size) (c .before .before .before .before .before .before .before .before .before .before .before .args .b .shares) (c .before .before .before .before .before .before .before .before .before .before .before .args .b .latest) (c .before .before .before .before .before .before .before .before .before .before .before .args .b .issued) (c .before .before .before .before .before .before .before .before .before .before .before .pre)) (search needs) (omega arith)) (search needs) (omega arith), search needs, omega arith)
 
--- src/books.rt:75:1
 returns : tie.Need-returns
 returns c =
     let b = c .before .before .before .before .before .before .before .before .before .before .before .before .args .b in

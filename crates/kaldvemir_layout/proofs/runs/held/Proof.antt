@@ -1,3 +1,4 @@
+-- `held` meets its contract: the run that the numbers are, field by field.
 use mathlib.Core.Path.{_≡_, refl, sym, _∙_, ap}
 use borrow.Author.Needs.{needs}
 use Rattle.kaldvemir_layout.proofs.runs.held.Statement.{statement}
@@ -7,35 +8,27 @@ use Rattle.kaldvemir_layout.proofs.runs.held.Lts as lts
 use Rattle.kaldvemir_layout.proofs.long.Reads as long-reads
 use Rattle.kaldvemir_layout.proofs.runs.items_of.Reads as items-of-reads
 
--- src/runs.rt:50:20
 array-read-long : tie.Need-array-read-long
 array-read-long c = search needs
 
--- src/runs.rt:50:15
 long-requires : tie.Need-long-requires
 long-requires c κs = search needs
 
--- src/runs.rt:51:21
 array-read-long-2 : tie.Need-array-read-long-2
 array-read-long-2 c = search needs
 
--- src/runs.rt:51:16
 long-requires-2 : tie.Need-long-requires-2
 long-requires-2 c κs = search needs
 
--- src/runs.rt:52:22
 array-read-long-3 : tie.Need-array-read-long-3
 array-read-long-3 c = search needs
 
--- src/runs.rt:52:17
 long-requires-3 : tie.Need-long-requires-3
 long-requires-3 c κs = search needs
 
--- src/runs.rt:53:16
 items-of-requires : tie.Need-items-of-requires
 items-of-requires c κs = search needs
 
--- src/runs.rt:45:1
 returns : tie.Need-returns
 returns c = (rw (c .before .before .before .before .long .ensures, c .before .before .before .long2 .ensures, c .before .before .long3 .ensures, c .items-of .ensures) refl, search needs)
 

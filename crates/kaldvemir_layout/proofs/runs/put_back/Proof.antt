@@ -1,3 +1,4 @@
+-- `put_back` meets its contract: the two numbers and the items in their places.
 use Rattle.kaldvemir_layout.proofs.Rows.{run-row}
 use mathlib.Core.Path.{_≡_, refl, sym, _∙_, ap}
 use borrow.Author.Needs.{needs}
@@ -7,19 +8,15 @@ use Rattle.kaldvemir_layout.proofs.runs.put_back.Reads as reads
 use Rattle.kaldvemir_layout.proofs.runs.put_back.Lts as lts
 use Rattle.kaldvemir_layout.proofs.runs.put_items.Reads as put-items-reads
 
--- src/runs.rt:62:5
 element-write-numbers : tie.Need-element-write-numbers
 element-write-numbers c = search needs
 
--- src/runs.rt:63:5
 element-write-numbers-2 : tie.Need-element-write-numbers-2
 element-write-numbers-2 c = search needs
 
--- src/runs.rt:64:5
 put-items-requires : tie.Need-put-items-requires
 put-items-requires c κs = search needs
 
--- src/runs.rt:58:1
 returns : tie.Need-returns
 returns c = c .put-items .ensures ∙ run-row (c .before .before .before .args .numbers .now) (c .before .before .before .args .t4) (c .before .before .before .args .stage) (c .before .before .before .args .len) (c .before .before .before .pre) (search needs)
 

@@ -1,4 +1,4 @@
--- `goes_on` meets its contract: its tests are those of `continues`.
+-- `continues` meets its contract: its tests are those of the definition `continues`.
 use borrow.Author.Needs.{needs}
 use Rattle.lists.proofs.Tests.{lt-true, lt-false, eqb-eq, eqb-ne}
 use Rattle.labelling_code.specs.Traced.{continues}

@@ -1,0 +1,10 @@
+pub mod Calling
+pub mod Numbers
+pub mod Shape
+pub mod Thin
+pub mod Look
+pub mod Take
+pub mod Lend
+pub mod Show
+pub mod LendTake
+pub mod Answers

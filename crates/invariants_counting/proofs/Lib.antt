@@ -1,0 +1,3 @@
+pub mod FixedEdges
+pub mod Walks
+pub mod Counts

@@ -1,0 +1,285 @@
+// An answer told through the boundary: its number is returned, and its values are written where it has them. Nothing is written of a
+// refusal but a compare's side, and nothing that stands behind a reference is read.
+pub mod runs;
+
+use book::Claiming;
+use book::Committing;
+use book::Releasing;
+use book::Reporting;
+use book::Taking;
+use diagrams::Verdict;
+use invariants::Measured;
+use kaldvemir_layout::long;
+use labelling_operations::Comparison;
+use labelling_operations::KeepMark;
+use labelling_operations::Relabelling;
+use labelling_operations::Symmetry;
+use listing_plain_walk::Walked;
+use listing_ranking::Entry;
+use listing_ranking::Place;
+use listing_ranking::Total;
+use words::Lettered;
+use words_reading::Reading;
+ghost use mathlib.Core.Path.{_≡_};
+ghost use mathlib.Core.Bool.{cond};
+ghost use Rattle.kaldvemir_answers.specs.Answers as answers;
+
+pub fn check_answer(a: Verdict) -> u16
+    ensures { λ r. ⌜ r ≡ answers.check-number a ⌝ }
+{
+    match a {
+        Verdict::Accepted => 0,
+        Verdict::Refused(k) => k,
+    }
+}
+
+pub fn relabel_answer(a: Relabelling, length: &mut u64) -> u16
+    ensures { λ r. ⌜ (r ≡ answers.relabel-number a)
+        × (now (length .exit) ≡ answers.relabel-length a (now (length .entry))) ⌝ }
+{
+    match a {
+        Relabelling::Length(m) => {
+            *length = long(m);
+            0
+        }
+        Relabelling::Refused(k) => k,
+    }
+}
+
+pub fn compare_answer(a: Comparison, same: &mut u64, side: &mut u64) -> u16
+    ensures { λ r. ⌜ (r ≡ answers.compare-number a)
+        × (now (same .exit) ≡ answers.compare-same a (now (same .entry)))
+        × (now (side .exit) ≡ answers.compare-side a (now (side .entry))) ⌝ }
+{
+    match a {
+        Comparison::Same => {
+            *same = 1;
+            0
+        }
+        Comparison::Different => {
+            *same = 0;
+            0
+        }
+        Comparison::Refused {
+            number,
+            side: which,
+        } => {
+            *side = long(which);
+            number
+        }
+    }
+}
+
+pub fn symmetries_answer(a: Symmetry, count: &mut u64) -> u16
+    ensures { λ r. ⌜ (r ≡ answers.symmetries-number a)
+        × (now (count .exit) ≡ answers.symmetries-count a (now (count .entry))) ⌝ }
+{
+    match a {
+        Symmetry::Count(m) => {
+            *count = long(m);
+            0
+        }
+        Symmetry::Refused(k) => k,
+    }
+}
+
+pub fn kept_answer(a: KeepMark, kept: &mut u64) -> u16
+    ensures { λ r. ⌜ (r ≡ answers.kept-number a)
+        × (now (kept .exit) ≡ answers.kept-mark a (now (kept .entry))) ⌝ }
+{
+    match a {
+        KeepMark::Yes => {
+            *kept = 1;
+            0
+        }
+        KeepMark::No => {
+            *kept = 0;
+            0
+        }
+        KeepMark::Refused(k) => k,
+    }
+}
+
+pub fn invariants_answer(
+    a: Measured,
+    e2: &mut u16,
+    e3: &mut u16,
+    c: &mut u16,
+    t: &mut i32,
+    level: &mut u16,
+) -> u16
+    ensures { λ r. ⌜ (r ≡ answers.invariants-number a)
+        × (now (e2 .exit) ≡ answers.invariants-e2 a (now (e2 .entry)))
+        × (now (e3 .exit) ≡ answers.invariants-e3 a (now (e3 .entry)))
+        × (now (c .exit) ≡ answers.invariants-c a (now (c .entry)))
+        × (now (t .exit) ≡ answers.invariants-t a (now (t .entry)))
+        × (now (level .exit) ≡ answers.invariants-level a (now (level .entry))) ⌝ }
+{
+    match a {
+        Measured::Known(m) => {
+            *e2 = m.e2;
+            *e3 = m.e3;
+            *c = m.c;
+            let signed = m.t;
+            *t = signed;
+            *level = m.level;
+            0
+        }
+        Measured::Refused(k) => k,
+    }
+}
+
+pub fn read_answer(a: Reading, size: &mut u64) -> u16
+    ensures { λ r. ⌜ (r ≡ answers.read-number a)
+        × (now (size .exit) ≡ answers.read-size a (now (size .entry))) ⌝ }
+{
+    match a {
+        Reading::Size(n) => {
+            *size = long(n);
+            0
+        }
+        Reading::Refused(k) => k,
+    }
+}
+
+pub fn letters_answer(a: Lettered, length: &mut u64) -> u16
+    ensures { λ r. ⌜ (r ≡ answers.letters-number a)
+        × (now (length .exit) ≡ answers.letters-length a (now (length .entry))) ⌝ }
+{
+    match a {
+        Lettered::Length(n) => {
+            *length = n as u64;
+            0
+        }
+        Lettered::Refused(k) => k,
+    }
+}
+
+pub fn count_answer(a: Total, count: &mut u64) -> u16
+    ensures { λ r. ⌜ (r ≡ answers.count-number a)
+        × (now (count .exit) ≡ answers.count-total a (now (count .entry))) ⌝ }
+{
+    match a {
+        Total::Number(c) => {
+            *count = c;
+            0
+        }
+        Total::Refused(k) => k,
+    }
+}
+
+pub fn entry_answer(a: Entry, length: &mut u64) -> u16
+    ensures { λ r. ⌜ (r ≡ answers.entry-number a)
+        × (now (length .exit) ≡ answers.entry-length a (now (length .entry))) ⌝ }
+{
+    match a {
+        Entry::Length(m) => {
+            *length = long(m);
+            0
+        }
+        Entry::Refused(k) => k,
+    }
+}
+
+pub fn place_answer(a: Place, position: &mut u64) -> u16
+    ensures { λ r. ⌜ (r ≡ answers.located-number a)
+        × (now (position .exit) ≡ answers.located-position a (now (position .entry))) ⌝ }
+{
+    match a {
+        Place::Number(p) => {
+            *position = p;
+            0
+        }
+        Place::Refused(k) => k,
+    }
+}
+
+pub fn walk_answer(a: Walked, count: &mut u64) -> u16
+    ensures { λ r. ⌜ (r ≡ answers.walk-number a)
+        × (now (count .exit) ≡ answers.walk-count a (now (count .entry))) ⌝ }
+{
+    match a {
+        Walked::Numbers(m) => {
+            *count = m as u64;
+            0
+        }
+        Walked::Refused(k) => k,
+    }
+}
+
+pub fn claim_answer(a: Claiming, ticket: &mut u64) -> u16
+    ensures { λ r. ⌜ (r ≡ answers.claiming-number a)
+        × (now (ticket .exit) ≡ answers.claiming-ticket a (now (ticket .entry))) ⌝ }
+{
+    match a {
+        Claiming::Ticket(t) => {
+            *ticket = t;
+            0
+        }
+        Claiming::Refused(k) => k,
+    }
+}
+
+pub fn take_answer(a: Taking, share: &mut u64, position: &mut u64, length: &mut u64) -> u16
+    ensures { λ r. ⌜ (r ≡ answers.taking-number a)
+        × (now (share .exit) ≡ answers.taking-share a (now (share .entry)))
+        × (now (position .exit) ≡ answers.taking-position a (now (position .entry)))
+        × (now (length .exit) ≡ answers.taking-length a (now (length .entry))) ⌝ }
+{
+    match a {
+        Taking::Given {
+            share: j,
+            position: p,
+            length: m,
+        } => {
+            *share = j;
+            *position = p;
+            *length = m;
+            0
+        }
+        Taking::Refused(k) => k,
+    }
+}
+
+pub fn commit_answer(a: Committing) -> u16
+    ensures { λ r. ⌜ r ≡ answers.committing-number a ⌝ }
+{
+    match a {
+        Committing::Committed => 0,
+        Committing::Refused(k) => k,
+    }
+}
+
+pub fn release_answer(a: Releasing) -> u16
+    ensures { λ r. ⌜ r ≡ answers.releasing-number a ⌝ }
+{
+    match a {
+        Releasing::Released => 0,
+        Releasing::Refused(k) => k,
+    }
+}
+
+// 1 for yes, 0 for no.
+fn truth(b: bool) -> u64
+    ensures { λ r. ⌜ r ≡ cond b 1 0 ⌝ }
+{
+    if b { 1 } else { 0 }
+}
+
+pub fn report_answer(a: Reporting, committed: &mut u64, complete: &mut u64) -> u16
+    ensures { λ r. ⌜ (r ≡ answers.reporting-number a)
+        × (now (committed .exit) ≡ answers.reporting-committed a (now (committed .entry)))
+        × (now (complete .exit) ≡ answers.reporting-complete a (now (complete .entry))) ⌝ }
+{
+    match a {
+        Reporting::Progress {
+            committed: n,
+            complete: all,
+        } => {
+            *committed = n;
+            *complete = truth(all);
+            0
+        }
+        Reporting::Refused(k) => k,
+    }
+}

@@ -1,0 +1,131 @@
+-- What the code of an event needs and leaves, from a labelling under way: the events are distinguished as in the definition of `event`.
+use mathlib.Core.Path.{_≡_, refl, sym, _∙_}
+use mathlib.Core.Logic.{_≢_, inl, inr}
+use mathlib.Core.List.{List, [], _∷_}
+use Prim.Native.Nat.{ℕ, suc, _+_, _≤_, _<_}
+use native.Mathlib.Omega.{arith}
+use lib.ListN.{length, getD}
+use Rattle.lists.specs.Lists.{at, Has, find, removeAt}
+use Rattle.lists.specs.Ranges.{OneTo}
+use Rattle.lists.proofs.Tests.{eqb-same, eqb-ne}
+use Rattle.diagrams.specs.Diagram.{Maps}
+use Rattle.diagrams.specs.Check.{Accepts}
+use Rattle.diagrams.proofs.Checks.{accepts-maps}
+use Rattle.pending_ring.specs.Ring.{Ring}
+use Rattle.labelling.specs.Labelling.{Event, event, LabellingInvariant}
+use Rattle.labelling.proofs.Along.{View, is-W, is-J, is-B, is-F, view, next, size}
+use Rattle.labelling.proofs.Labels.{inv-U, inv-T}
+use Rattle.labelling.proofs.Rootings.{accepts-rerooted}
+use Rattle.labelling.proofs.Moves.{move-W, move-J, move-B, move-F}
+use Rattle.labelling_events.specs.Scratch.{LabelsHeld, Underway, firstEventOf, EventDone}
+use Rattle.labelling_events.proofs.Arrays.{lab-none, lab-zero}
+
+-- ---- accepted diagrams
+
+pub accepts-small : (s0 s1 : List ℕ) (r x : ℕ) → Accepts s0 s1 r → OneTo (length s0) x → OneTo 1024 x
+accepts-small s0 s1 r x a e = let i = a .size in omega arith
+
+-- ---- the event of the popped edge k
+
+module _ (s0 s1 la od nx pv : List ℕ) (c : ℕ) (o : List ℕ) (k : ℕ) (r : List ℕ) (u : Underway s0 s1 la od nx pv c o (k ∷ r)) where
+  abbrev p : ℕ
+  p = at s1 k
+
+  maps : Maps (length s0) (at s0) (at s1)
+  maps = accepts-maps s0 s1 1 (u .accepted)
+
+  pub popped-edge : OneTo (length s0) k
+  popped-edge = u .along .edges k (u .along .pending k (inl refl))
+
+  pub partner-edge : OneTo (length s0) p
+  partner-edge = u .accepted .whites k popped-edge
+
+  pub partner-small : p < 1025
+  partner-small = let i = partner-edge in let j = u .accepted .size in omega arith
+
+  after : LabellingInvariant (length s0) (at s0) (at s1) (event (at s0) (at s1) o k r .marked) (event (at s0) (at s1) o k r .stack)
+  after = next (length s0) (at s0) (at s1) maps o k r (u .along)
+
+  -- a partner with a label is pending
+  pub partner-pending : p ≢ k → getD la p 0 ≢ 0 → Has p r
+  partner-pending a b = go (view (length s0) (at s0) (at s1) maps o k r (u .along))
+    where
+      go : View (at s0) (at s1) o k r → Has p r
+      go (is-W e q) = absurd (a e)
+      go (is-J d h q) = h
+      go (is-B d m e q) = absurd (b (u .holds .label-of p ∙ lab-none o p m))
+      go (is-F d m e q) = absurd (b (u .holds .label-of p ∙ lab-none o p m))
+
+  fresh : getD la p 0 ≡ 0 → ¬ Has p o
+  fresh b = lab-zero o p (sym (u .holds .label-of p) ∙ b)
+
+  did : (v : Event) (la′ od′ nx′ pv′ : List ℕ) (x c′ : ℕ) → event (at s0) (at s1) o k r ≡ v → x ≡ v .item → LabelsHeld la′ od′ c′ (v .marked) → Ring nx′ pv′ (v .stack)
+      → EventDone s0 s1 la′ od′ nx′ pv′ (event (at s0) (at s1) o k r) (record { item = x; given = c′ })
+  did v la′ od′ nx′ pv′ x c′ e i h q = record { item-is = rw e i; leaves = record { accepted = u .accepted; along = after; holds = rw e h; ring = rw e q } }
+
+  pub did-W : (nx′ pv′ : List ℕ) → p ≡ k → Ring nx′ pv′ r → EventDone s0 s1 la od nx′ pv′ (event (at s0) (at s1) o k r) (record { item = 0; given = c })
+  did-W nx′ pv′ a q = did _ la od nx′ pv′ 0 c (move-W (at s0) (at s1) o k r p refl a) refl (u .holds) q
+
+  pub did-J : (nx′ pv′ : List ℕ) (x : ℕ) → p ≢ k → getD la p 0 ≢ 0 → x ≡ suc (suc (suc (find p r))) → Ring nx′ pv′ (removeAt (find p r) r)
+      → EventDone s0 s1 la od nx′ pv′ (event (at s0) (at s1) o k r) (record { item = x; given = c })
+  did-J nx′ pv′ x a b e q = did _ la od nx′ pv′ x c (move-J (at s0) (at s1) o k r p refl a (u .along .pending p (inr (partner-pending a b)))) e (u .holds) q
+
+  -- B: one label is left
+  event-B : p ≢ k → getD la p 0 ≡ 0 → at s0 p ≡ p → event (at s0) (at s1) o k r ≡ record { item = 2; marked = p ∷ o; stack = r }
+  event-B a b e = move-B (at s0) (at s1) o k r p refl a (fresh b) e
+
+  pub event-B-room : p ≢ k → getD la p 0 ≡ 0 → at s0 p ≡ p → c < 1024
+  event-B-room a b e =
+      let i = size (length s0) (at s0) (at s1) maps _ _ (rw (event-B a b e) at after) in
+      let j = u .accepted .size in
+      let l = u .holds .given-is in
+      omega arith
+
+  pub did-B : (la′ od′ nx′ pv′ : List ℕ) (c′ : ℕ) → p ≢ k → getD la p 0 ≡ 0 → at s0 p ≡ p → LabelsHeld la′ od′ c′ (p ∷ o) → Ring nx′ pv′ r
+      → EventDone s0 s1 la′ od′ nx′ pv′ (event (at s0) (at s1) o k r) (record { item = 2; given = c′ })
+  did-B la′ od′ nx′ pv′ c′ a b e h q = did _ la′ od′ nx′ pv′ 2 c′ (event-B a b e) refl h q
+
+  -- F: three labels are left, and the next two edges round the vertex are not pending
+  fork : p ≢ k → getD la p 0 ≡ 0 → at s0 p ≢ p
+      → event (at s0) (at s1) o k r ≡ record { item = 1; marked = at s0 (at s0 p) ∷ at s0 p ∷ p ∷ o; stack = at s0 (at s0 p) ∷ at s0 p ∷ r }
+  fork a b e = move-F (at s0) (at s1) o k r p refl a (fresh b) e
+
+  forked : p ≢ k → getD la p 0 ≡ 0 → at s0 p ≢ p → LabellingInvariant (length s0) (at s0) (at s1) (at s0 (at s0 p) ∷ at s0 p ∷ p ∷ o) (at s0 (at s0 p) ∷ at s0 p ∷ r)
+  forked a b e = rw (fork a b e) at after
+
+  pub fork-room : p ≢ k → getD la p 0 ≡ 0 → at s0 p ≢ p → c + 3 ≤ 1024
+  fork-room a b e =
+      let i = size (length s0) (at s0) (at s1) maps _ _ (forked a b e) in
+      let j = u .accepted .size in
+      let l = u .holds .given-is in
+      omega arith
+
+  pub fork-new : p ≢ k → getD la p 0 ≡ 0 → at s0 p ≢ p → (¬ Has (at s0 p) r) × (¬ Has (at s0 (at s0 p)) (at s0 p ∷ r))
+  fork-new a b e = (forked a b e .stacked .1 .0, forked a b e .stacked .0)
+
+  pub did-F : (la′ od′ nx′ pv′ : List ℕ) (c′ : ℕ) → p ≢ k → getD la p 0 ≡ 0 → at s0 p ≢ p → LabelsHeld la′ od′ c′ (at s0 (at s0 p) ∷ at s0 p ∷ p ∷ o) → Ring nx′ pv′ (at s0 (at s0 p) ∷ at s0 p ∷ r)
+      → EventDone s0 s1 la′ od′ nx′ pv′ (event (at s0) (at s1) o k r) (record { item = 1; given = c′ })
+  did-F la′ od′ nx′ pv′ c′ a b e h q = did _ la′ od′ nx′ pv′ 1 c′ (fork a b e) refl h q
+
+-- ---- the first event
+
+module _ (s0 s1 : List ℕ) (r : ℕ) (a : Accepts s0 s1 r) where
+  start : (v : Event) (la od nx pv : List ℕ) (x c : ℕ) → firstEventOf s0 r ≡ v → LabellingInvariant (length s0) (at s0) (at s1) (v .marked) (v .stack)
+      → x ≡ v .item → LabelsHeld la od c (v .marked) → Ring nx pv (v .stack) → EventDone s0 s1 la od nx pv (firstEventOf s0 r) (record { item = x; given = c })
+  start v la od nx pv x c e i j h q =
+      let s = a .size in
+      record { item-is = rw e j; leaves = record { accepted = accepts-rerooted s0 s1 r a 1 (omega arith); along = rw e i; holds = rw e h; ring = rw e q } }
+
+  pub did-U : (la od nx pv : List ℕ) (c : ℕ) → at s0 r ≡ r → LabelsHeld la od c (r ∷ []) → Ring nx pv (r ∷ [])
+      → EventDone s0 s1 la od nx pv (firstEventOf s0 r) (record { item = 0; given = c })
+  did-U la od nx pv c e h q = start (record { item = 0; marked = r ∷ []; stack = r ∷ [] }) la od nx pv 0 c (rw (e, eqb-same r)) (inv-U (length s0) (at s0) (at s1) (accepts-maps s0 s1 r a) r (a .root-in) e) refl h q
+
+  begun : at s0 r ≢ r → LabellingInvariant (length s0) (at s0) (at s1) (at s0 (at s0 r) ∷ at s0 r ∷ r ∷ []) (at s0 (at s0 r) ∷ at s0 r ∷ r ∷ [])
+  begun e = inv-T (length s0) (at s0) (at s1) (accepts-maps s0 s1 r a) r (a .root-in) e
+
+  pub root-new : at s0 r ≢ r → (¬ Has (at s0 r) (r ∷ [])) × (¬ Has (at s0 (at s0 r)) (at s0 r ∷ r ∷ []))
+  root-new e = (begun e .stacked .1 .0, begun e .stacked .0)
+
+  pub did-T : (la od nx pv : List ℕ) (c : ℕ) → at s0 r ≢ r → LabelsHeld la od c (at s0 (at s0 r) ∷ at s0 r ∷ r ∷ []) → Ring nx pv (at s0 (at s0 r) ∷ at s0 r ∷ r ∷ [])
+      → EventDone s0 s1 la od nx pv (firstEventOf s0 r) (record { item = 1; given = c })
+  did-T la od nx pv c e h q = start (record { item = 1; marked = at s0 (at s0 r) ∷ at s0 r ∷ r ∷ []; stack = at s0 (at s0 r) ∷ at s0 r ∷ r ∷ [] }) la od nx pv 1 c (rw (eqb-ne (at s0 r) r e)) (begun e) refl h q

@@ -1,0 +1,136 @@
+// The labelling of a diagram, event by event, in lent arrays: `labels` (the label of each edge, 0 where it has none), `order` (the edge
+// of each label) and the pending ring, which holds edges. Nothing of the size limit is cleared or copied for one labelling.
+use lists::to_index;
+ghost use mathlib.Core.Path.{_≡_};
+ghost use mathlib.Core.List.{List, _∷_};
+ghost use Prim.Native.Nat.{ℕ, suc, _+_, _<_, _≤_};
+ghost use lib.ListN.{length};
+ghost use Rattle.lists.specs.Lists.{at, Has, find, removeAt};
+ghost use Rattle.lists.specs.Ranges.{OneTo};
+ghost use Rattle.diagrams.specs.Check.{Accepts};
+ghost use Rattle.pending_ring.specs.Ring.{Ring};
+ghost use Rattle.labelling.specs.Labelling.{event};
+ghost use Rattle.labelling_events.specs.Scratch.{LabelsHeld, Underway, firstEventOf, EventDone, Ready};
+
+// An event's item, and how many labels are given after it.
+pub struct EventItem {
+    pub item: u16,
+    pub given: u16,
+}
+
+// The next edge round x's vertex.
+pub fn follow(s: &[u16], x: u16) -> u16
+    requires { ⌜ OneTo (length (now s)) x ⌝ }
+    ensures { λ r. ⌜ r ≡ at (now (s .entry)) x ⌝ }
+{
+    s[to_index(x) - 1]
+}
+
+// Gives edge x the next label, and returns it.
+fn give_label(labels: &mut [u16; 1025], order: &mut [u16; 1025], given: u16, x: u16) -> u16
+    requires { ⌜ (given < 1024) × (x < 1025) ⌝ }
+    ensures next { λ r. ⌜ r ≡ given + 1 ⌝ }
+    ensures held { λ r. ⌜ ((o : List ℕ) → LabelsHeld (now (labels .entry)) (now (order .entry)) given o → LabelsHeld (now (labels .exit)) (now (order .exit)) r (x ∷ o)) ⌝ }
+{
+    let label = given + 1;
+    let i = to_index(x);
+    let j = to_index(label);
+    labels[i] = label;
+    order[j] = x;
+    label
+}
+
+// Jd: the partner p is pending. It is taken out, and the item returned.
+fn join_pending(next: &mut [u16; 1025], prev: &mut [u16; 1025], p: u16) -> u16
+    requires { ⌜ ((st : List ℕ) × Ring (now next) (now prev) st × Has p st) ⌝ }
+    ensures { λ r. ⌜ ((st : List ℕ) → Ring (now (next .entry)) (now (prev .entry)) st → Has p st
+        → (r ≡ suc (suc (suc (find p st)))) × Ring (now (next .exit)) (now (prev .exit)) (removeAt (find p st) st)) ⌝ }
+{
+    let d = pending_ring::depth(next, p);
+    pending_ring::unhook(next, prev, p);
+    (d + 3) as u16
+}
+
+// F: the edges p, q and s round a black vertex get the next labels, and the last two are pushed.
+fn add_triple(
+    labels: &mut [u16; 1025],
+    order: &mut [u16; 1025],
+    next: &mut [u16; 1025],
+    prev: &mut [u16; 1025],
+    given: u16,
+    p: u16,
+    q: u16,
+    s: u16,
+) -> u16
+    requires { ⌜ (given + 3 ≤ 1024) × OneTo 1024 p × OneTo 1024 q × OneTo 1024 s ⌝ }
+    requires { ⌜ ((st : List ℕ) × Ring (now next) (now prev) st × (¬ Has q st) × (¬ Has s (q ∷ st))) ⌝ }
+    ensures held { λ r. ⌜ ((o : List ℕ) → LabelsHeld (now (labels .entry)) (now (order .entry)) given o → LabelsHeld (now (labels .exit)) (now (order .exit)) r (s ∷ q ∷ p ∷ o)) ⌝ }
+    ensures pushed { λ r. ⌜ ((st : List ℕ) → Ring (now (next .entry)) (now (prev .entry)) st → ¬ Has q st → ¬ Has s (q ∷ st) → Ring (now (next .exit)) (now (prev .exit)) (s ∷ q ∷ st)) ⌝ }
+{
+    let a = give_label(labels, order, given, p);
+    let b = give_label(labels, order, a, q);
+    let c = give_label(labels, order, b, s);
+    pending_ring::push(next, prev, q);
+    pending_ring::push(next, prev, s);
+    c
+}
+
+// The first event, from the root: U or T.
+pub fn begin(
+    s0: &[u16],
+    labels: &mut [u16; 1025],
+    order: &mut [u16; 1025],
+    next: &mut [u16; 1025],
+    prev: &mut [u16; 1025],
+    root: u16,
+) -> EventItem
+    requires { ⌜ ((s1 : List ℕ) × Accepts (now s0) s1 root) ⌝ }
+    requires { ⌜ Ready (now labels) (now order) (now next) (now prev) ⌝ }
+    ensures { λ e. ⌜ ((s1 : List ℕ) → Accepts (now (s0 .entry)) s1 root
+        → EventDone (now (s0 .entry)) s1 (now (labels .exit)) (now (order .exit)) (now (next .exit)) (now (prev .exit)) (firstEventOf (now (s0 .entry)) root) e) ⌝ }
+{
+    let q = follow(s0, root);
+    pending_ring::push(next, prev, root);
+    if q == root {
+        let given = give_label(labels, order, 0, root);
+        return EventItem { item: 0, given };
+    }
+    let s = follow(s0, q);
+    let given = add_triple(labels, order, next, prev, 0, root, q, s);
+    EventItem { item: 1, given }
+}
+
+// The event of the edge on top of the stack: W, Jd, B or F.
+pub fn event(
+    s0: &[u16],
+    s1: &[u16],
+    labels: &mut [u16; 1025],
+    order: &mut [u16; 1025],
+    next: &mut [u16; 1025],
+    prev: &mut [u16; 1025],
+    given: u16,
+) -> EventItem
+    requires { ⌜ ((o : List ℕ) × (k : ℕ) × (r : List ℕ) × Underway (now s0) (now s1) (now labels) (now order) (now next) (now prev) given o (k ∷ r)) ⌝ }
+    ensures { λ e. ⌜ ((o : List ℕ) (k : ℕ) (r : List ℕ) → Underway (now (s0 .entry)) (now (s1 .entry)) (now (labels .entry)) (now (order .entry)) (now (next .entry)) (now (prev .entry)) given o (k ∷ r)
+        → EventDone (now (s0 .entry)) (now (s1 .entry)) (now (labels .exit)) (now (order .exit)) (now (next .exit)) (now (prev .exit)) (event (at (now (s0 .entry))) (at (now (s1 .entry))) o k r) e) ⌝ }
+{
+    let k = pending_ring::pop(next, prev);
+    let p = follow(s1, k);
+    if p == k {
+        return EventItem { item: 0, given };
+    }
+    let i = to_index(p);
+    let label = labels[i];
+    if label != 0 {
+        let item = join_pending(next, prev, p);
+        return EventItem { item, given };
+    }
+    let q = follow(s0, p);
+    if q == p {
+        let given = give_label(labels, order, given, p);
+        return EventItem { item: 2, given };
+    }
+    let s = follow(s0, q);
+    let given = add_triple(labels, order, next, prev, given, p, q, s);
+    EventItem { item: 1, given }
+}

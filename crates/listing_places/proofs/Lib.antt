@@ -1,0 +1,4 @@
+pub mod EventBlocks
+pub mod Choices
+pub mod Passing
+pub mod Places

@@ -1,0 +1,29 @@
+// The census program's input, case by case. Standard input holds inputs of the census, each with a semicolon after it. Each is printed with its
+// semicolon, and then what the census prints. The file stdout was written from document 01 and the listings of sizes 1, 2 and 4 that were handed
+// over, not from what the program prints.
+use libc::STDIN_FILENO;
+use libc::STDOUT_FILENO;
+
+fn case(input: &[u8]) {
+    io::write_all(STDOUT_FILENO, input);
+    io::write_all(STDOUT_FILENO, b";\n");
+    census_text::census(input);
+}
+
+fn run(inputs: &[u8]) {
+    let mut start: usize = 0;
+    while start < inputs.len() {
+        let end = bytes::scan::find(inputs, start, inputs.len(), b';');
+        case(&inputs[start..end]);
+        if end == inputs.len() {
+            return;
+        }
+        start = end + 1;
+    }
+}
+
+fn main() {
+    let mut inputs = [0u8; 1024];
+    let n = io::read_full(STDIN_FILENO, &mut inputs);
+    run(&inputs[..n]);
+}
