@@ -15,9 +15,9 @@ use Rattle.run_blocks.specs.Promises.{RunAfterRows, ListPromise, ListMarkedProm
 use Rattle.run_blocks.proofs.Whole.{marked-lists}
 use Rattle.run_blocks.specs.declared.Listing.{Listing}
 use Rattle.run_blocks.specs.declared.Listing.the-variants.{Rows, Refused}
-use Rattle.kaldvemir_layout.specs.Layout.{run-of, run-numbers}
-use Rattle.kaldvemir_layout.proofs.Rows.{run-again}
-use Rattle.kaldvemir_answers.specs.Runs.{list-numbers, FitsRows}
+use Rattle.kaldvemir_layout_run.specs.Layout.{run-of, run-numbers}
+use Rattle.kaldvemir_layout_run.proofs.Rows.{run-again}
+use Rattle.kaldvemir_answers_run.specs.Runs.{list-numbers, FitsRows}
 
 pub record Fitting (l : List ℕ) (next : Run) : Type 0 where
   pub stage-small : next .stage ≤ 2

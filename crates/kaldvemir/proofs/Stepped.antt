@@ -11,9 +11,9 @@ use Rattle.run_steps.specs.declared.Stepping.{Stepping}
 use Rattle.run_steps.specs.declared.Stepping.the-variants.{Length, End, Refused}
 use Rattle.run_steps.specs.Promises.{RunAt, RunFinished, runAfter, finished, StepPromise}
 use Rattle.run_steps.proofs.Standing.{stands-size}
-use Rattle.kaldvemir_layout.specs.Layout.{run-of, run-numbers}
-use Rattle.kaldvemir_layout.proofs.Rows.{run-again}
-use Rattle.kaldvemir_answers.specs.Runs.{step-numbers}
+use Rattle.kaldvemir_layout_run.specs.Layout.{run-of, run-numbers}
+use Rattle.kaldvemir_layout_run.proofs.Rows.{run-again}
+use Rattle.kaldvemir_answers_run.specs.Runs.{step-numbers}
 
 over-size : (n : ℕ) (run : Run) → RunFinished n run → run .size ≡ n
 over-size n run O = ap (λ (r : Run). r .size) (O .is)

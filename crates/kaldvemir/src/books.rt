@@ -7,24 +7,24 @@ use book_decisions::release;
 use book_decisions::report;
 use book_decisions::take;
 use book_operations::open_core;
-use kaldvemir_answers::claim_answer;
-use kaldvemir_answers::commit_answer;
-use kaldvemir_answers::release_answer;
-use kaldvemir_answers::report_answer;
-use kaldvemir_answers::take_answer;
-use kaldvemir_layout::books::change;
-use kaldvemir_layout::books::expiries;
-use kaldvemir_layout::books::heads;
-use kaldvemir_layout::books::nexts;
-use kaldvemir_layout::books::put_back;
-use kaldvemir_layout::books::tickets;
+use kaldvemir_answers_book::claim_answer;
+use kaldvemir_answers_book::commit_answer;
+use kaldvemir_answers_book::release_answer;
+use kaldvemir_answers_book::report_answer;
+use kaldvemir_answers_book::take_answer;
+use kaldvemir_layout_book::change;
+use kaldvemir_layout_book::expiries;
+use kaldvemir_layout_book::heads;
+use kaldvemir_layout_book::nexts;
+use kaldvemir_layout_book::put_back;
+use kaldvemir_layout_book::tickets;
 ghost use mathlib.Core.Path.{_≡_};
 ghost use Rattle.book.specs.Calls.{open-answer, open-book, claim-answer, claim-book, commit-answer, commit-book, release-answer, release-book, report-answer};
 ghost use Rattle.book.specs.Taken.{TakePromise};
 ghost use Rattle.book.specs.declared.types.Book.{Book};
 ghost use Rattle.book.specs.declared.types.Taking.{Taking};
 ghost use Rattle.kaldvemir_answers.specs.Answers as answers;
-ghost use Rattle.kaldvemir_layout.specs.Layout.{book-of, book-numbers};
+ghost use Rattle.kaldvemir_layout_book.specs.Layout.{book-of, book-numbers};
 
 // A book of zeros, for open to decide on: it tests nothing of the book that it is to alter.
 fn blank() -> Book {

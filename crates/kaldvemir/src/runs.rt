@@ -1,7 +1,7 @@
 // Runs. A run lies with the caller as 54 numbers.
-use kaldvemir_answers::runs::list_answer;
-use kaldvemir_answers::runs::step_answer;
-use kaldvemir_layout::runs::held;
+use kaldvemir_answers_run::list_answer;
+use kaldvemir_answers_run::step_answer;
+use kaldvemir_layout_run::held;
 use run_steps::Beginning;
 ghost use mathlib.Core.Path.{_≡_};
 ghost use Rattle.run_steps.specs.Promises.{BeginPromise, StepPromise};
@@ -11,8 +11,8 @@ ghost use Rattle.run_steps.specs.declared.Stepping.{Stepping};
 ghost use Rattle.run_blocks.specs.Promises.{ListPromise, ListMarkedPromise};
 ghost use Rattle.run_blocks.specs.declared.Listing.{Listing};
 ghost use Rattle.kaldvemir_answers.specs.Answers as answers;
-ghost use Rattle.kaldvemir_layout.specs.Layout.{run-of, run-numbers};
-ghost use Rattle.kaldvemir_layout.specs.Layout as layout;
+ghost use Rattle.kaldvemir_layout_run.specs.Layout.{run-of, run-numbers};
+ghost use Rattle.kaldvemir_layout_run.specs.Layout as layout;
 
 #[no_mangle]
 pub extern "C" fn kaldvemir_begin(size: u64, run: &mut [u16; 54]) -> u16

@@ -1,12 +1,5 @@
 // An answer told through the boundary: its number is returned, and its values are written where it has them. Nothing is written of a
 // refusal but a compare's side, and nothing that stands behind a reference is read.
-pub mod runs;
-
-use book::Claiming;
-use book::Committing;
-use book::Releasing;
-use book::Reporting;
-use book::Taking;
 use diagrams::Verdict;
 use invariants::Measured;
 use kaldvemir_layout::long;
@@ -21,7 +14,6 @@ use listing_ranking::Total;
 use words::Lettered;
 use words_reading::Reading;
 ghost use mathlib.Core.Path.{_≡_};
-ghost use mathlib.Core.Bool.{cond};
 ghost use Rattle.kaldvemir_answers.specs.Answers as answers;
 
 pub fn check_answer(a: Verdict) -> u16
@@ -204,82 +196,5 @@ pub fn walk_answer(a: Walked, count: &mut u64) -> u16
             0
         }
         Walked::Refused(k) => k,
-    }
-}
-
-pub fn claim_answer(a: Claiming, ticket: &mut u64) -> u16
-    ensures { λ r. ⌜ (r ≡ answers.claiming-number a)
-        × (now (ticket .exit) ≡ answers.claiming-ticket a (now (ticket .entry))) ⌝ }
-{
-    match a {
-        Claiming::Ticket(t) => {
-            *ticket = t;
-            0
-        }
-        Claiming::Refused(k) => k,
-    }
-}
-
-pub fn take_answer(a: Taking, share: &mut u64, position: &mut u64, length: &mut u64) -> u16
-    ensures { λ r. ⌜ (r ≡ answers.taking-number a)
-        × (now (share .exit) ≡ answers.taking-share a (now (share .entry)))
-        × (now (position .exit) ≡ answers.taking-position a (now (position .entry)))
-        × (now (length .exit) ≡ answers.taking-length a (now (length .entry))) ⌝ }
-{
-    match a {
-        Taking::Given {
-            share: j,
-            position: p,
-            length: m,
-        } => {
-            *share = j;
-            *position = p;
-            *length = m;
-            0
-        }
-        Taking::Refused(k) => k,
-    }
-}
-
-pub fn commit_answer(a: Committing) -> u16
-    ensures { λ r. ⌜ r ≡ answers.committing-number a ⌝ }
-{
-    match a {
-        Committing::Committed => 0,
-        Committing::Refused(k) => k,
-    }
-}
-
-pub fn release_answer(a: Releasing) -> u16
-    ensures { λ r. ⌜ r ≡ answers.releasing-number a ⌝ }
-{
-    match a {
-        Releasing::Released => 0,
-        Releasing::Refused(k) => k,
-    }
-}
-
-// 1 for yes, 0 for no.
-fn truth(b: bool) -> u64
-    ensures { λ r. ⌜ r ≡ cond b 1 0 ⌝ }
-{
-    if b { 1 } else { 0 }
-}
-
-pub fn report_answer(a: Reporting, committed: &mut u64, complete: &mut u64) -> u16
-    ensures { λ r. ⌜ (r ≡ answers.reporting-number a)
-        × (now (committed .exit) ≡ answers.reporting-committed a (now (committed .entry)))
-        × (now (complete .exit) ≡ answers.reporting-complete a (now (complete .entry))) ⌝ }
-{
-    match a {
-        Reporting::Progress {
-            committed: n,
-            complete: all,
-        } => {
-            *committed = n;
-            *complete = truth(all);
-            0
-        }
-        Reporting::Refused(k) => k,
     }
 }

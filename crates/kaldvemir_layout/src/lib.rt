@@ -1,7 +1,4 @@
-// The book and the run as numbers in a row, the form in which callers in C and Rust own them (c/kaldvemir.h).
-pub mod books;
-pub mod runs;
-
+// What the layouts of the book and of the run as numbers in a row share (crates kaldvemir_layout_book and kaldvemir_layout_run).
 ghost use mathlib.Core.Path.{_≡_};
 
 // A 16-bit number as a 64-bit one.

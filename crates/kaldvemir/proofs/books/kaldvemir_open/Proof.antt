@@ -5,8 +5,8 @@ use denote.Ref.{now}
 use lib.ListN.{length}
 use Rattle.book.specs.declared.types.Opening.the-variants.{Opened, Refused}
 use Rattle.book.specs.Calls.{open-answer}
-use Rattle.kaldvemir_layout.specs.Layout.{book-of, book-numbers}
-use Rattle.kaldvemir_layout.proofs.Changes.{book-again}
+use Rattle.kaldvemir_layout_book.specs.Layout.{book-of, book-numbers}
+use Rattle.kaldvemir_layout_book.proofs.Changes.{book-again}
 use Rattle.kaldvemir_answers.specs.Answers as answers
 use Rattle.kaldvemir.proofs.Opened.{opening-refused, opening-accepted}
 use borrow.Author.Needs.{needs}

@@ -1,7 +1,7 @@
 -- `kaldvemir_take` meets its contract: the decision on the parts of the 100 numbers, and the change written back.
 use denote.Ref.{now}
 use Rattle.book.specs.Changes.{changed}
-use Rattle.kaldvemir_layout.specs.Layout.{book-of}
+use Rattle.kaldvemir_layout_book.specs.Layout.{book-of}
 use borrow.Author.Needs.{needs}
 use Rattle.kaldvemir.proofs.books.kaldvemir_take.Statement.{statement}
 use Rattle.kaldvemir.proofs.books.kaldvemir_take.Tie as tie
