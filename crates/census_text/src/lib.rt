@@ -3,30 +3,32 @@
 //
 // The diagrams come from a run in blocks, with their keep marks, and the lines of a block go out together, so that the memory needed does
 // not grow with the size.
-mod rows;
-
+use census_lines::put_header;
+use census_lines::put_refusal;
+use census_lines::put_totals;
+use census_rows::ROWS;
+use census_rows::put_rows;
 use diagrams::Diagram;
 use libc::STDOUT_FILENO;
 use listing_ranking::Total;
-use rows::plus;
-use rows::put_rows;
 use run_blocks::Listing;
 use run_blocks::list_marked;
 use run_steps::Run;
-use text_printing::put_byte;
-use text_printing::put_number;
-use text_printing::put_text;
-
-// Diagrams in a block. No line is longer than 1,024 bytes (15 digits, at most 51 items of three letters, two lists of 50 entries, five numbers
-// and the marks between), so that a block's lines fit the 65,536 bytes that are written at once.
-const ROWS: usize = 48;
 
 // Writes the first bytes of out, up to a place; false where standard output takes no more.
-fn flush(out: &[u8], at: usize) -> bool {
-    if out.len() < at {
+fn flush(out: &[u8], end: usize) -> bool {
+    if out.len() < end {
         return false;
     }
-    io::write_all(STDOUT_FILENO, &out[0..at])
+    io::write_all(STDOUT_FILENO, &out[0..end])
+}
+
+// A sum, or the largest number where it does not fit.
+fn plus(a: u64, b: u64) -> u64 {
+    if u64::MAX - a < b {
+        return u64::MAX;
+    }
+    a + b
 }
 
 // The run after a block, how many diagrams the block listed and how many of them are kept.
@@ -73,7 +75,7 @@ fn list_block(run: Run, listed: u64, n: usize, out: &mut [u8]) -> Block {
         &marks,
     );
     let run = rows.run;
-    if flush(out, page.at) {
+    if flush(out, page.end) {
         return Block {
             run,
             listed: k,
@@ -87,23 +89,10 @@ fn list_block(run: Run, listed: u64, n: usize, out: &mut [u8]) -> Block {
     }
 }
 
-fn put_header(out: &mut [u8], size: u64) -> usize {
-    let mut at = put_text(out, 0, b"rooted trivalent diagrams, size ");
-    at = put_number(out, at, size);
-    put_byte(out, at, b'\n')
-}
-
-fn put_totals(out: &mut [u8], listed: u64, kept: u64) -> usize {
-    let mut at = put_number(out, 0, listed);
-    at = put_text(out, at, b" listed, ");
-    at = put_number(out, at, kept);
-    put_text(out, at, b" kept\n")
-}
-
 // All lines of a size of total diagrams, a block at a time. It stops where standard output closes.
 fn print_census(run: Run, size: u64, total: u64, out: &mut [u8]) {
-    let at = put_header(out, size);
-    flush(out, at);
+    let end = put_header(out, size);
+    flush(out, end);
     let mut run = run;
     let mut listed: u64 = 0;
     let mut kept: u64 = 0;
@@ -117,15 +106,13 @@ fn print_census(run: Run, size: u64, total: u64, out: &mut [u8]) {
         kept = plus(kept, block.kept);
         run = block.run;
     }
-    let at = put_totals(out, listed, kept);
-    flush(out, at);
+    let end = put_totals(out, listed, kept);
+    flush(out, end);
 }
 
 fn refuse(number: u16, out: &mut [u8]) {
-    let mut at = put_text(out, 0, b"refused ");
-    at = put_number(out, at, number as u64);
-    at = put_byte(out, at, b'\n');
-    flush(out, at);
+    let end = put_refusal(out, number);
+    flush(out, end);
 }
 
 // Prints the census that the input asks for.

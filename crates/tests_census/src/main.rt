@@ -1,6 +1,8 @@
-// The census program's input, case by case. Standard input holds inputs of the census, each with a semicolon after it. Each is printed with its
-// semicolon, and then what the census prints. The file stdout was written from document 01 and the listings of sizes 1, 2 and 4 that were handed
-// over, not from what the program prints.
+// The census program's input, case by case, and the numbers of rooted and kept diagrams by size (counts.rt). Standard input holds inputs of the
+// census, each with a semicolon after it. Each is printed with its semicolon, and then what the census prints. The file stdout was written from
+// document 01, the listings of sizes 1, 2 and 4 that were handed over and the published counts, not from what the program prints.
+mod counts;
+
 use libc::STDIN_FILENO;
 use libc::STDOUT_FILENO;
 
@@ -26,4 +28,5 @@ fn main() {
     let mut inputs = [0u8; 1024];
     let n = io::read_full(STDIN_FILENO, &mut inputs);
     run(&inputs[..n]);
+    counts::print_counts();
 }

@@ -7,10 +7,10 @@ use Rattle.census_text.proofs.print_census.Statement.{statement}
 use Rattle.census_text.proofs.print_census.Tie as tie
 
 abbrev Inv-loop : tie.InvT-loop
-Inv-loop size total out₀ at run₀ listed₀ kept₀ out run listed kept = length out ≡ length out₀
+Inv-loop size total out₀ end run₀ listed₀ kept₀ out run listed kept = length out ≡ length out₀
 
 abbrev μ-loop : tie.MeasureT-loop
-μ-loop size total out₀ at run₀ listed₀ kept₀ out run listed kept = total - listed
+μ-loop size total out₀ end run₀ listed₀ kept₀ out run listed kept = total - listed
 
 put-header-requires : tie.Need-put-header-requires Inv-loop μ-loop
 put-header-requires c κs = search needs

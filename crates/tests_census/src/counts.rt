@@ -68,7 +68,8 @@ fn print_size(size: u64)
     print_line(size, counted(run, &mut s0[0..n], &mut s1[0..n], &mut word));
 }
 
-fn main() {
+// All sizes up to LAST.
+pub fn print_counts() {
     let mut size: u64 = 1;
     while size <= LAST {
         print_size(size);

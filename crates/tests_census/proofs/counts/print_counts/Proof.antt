@@ -1,8 +1,8 @@
--- `main` is safe and ends: the sizes that are left fall.
+-- `print_counts` is safe and ends: the sizes that are left fall.
 use Prim.Native.Nat.{_-_, _≤_}
 use borrow.Author.Needs.{needs}
-use Rattle.tests_kept.proofs.main.Statement.{statement}
-use Rattle.tests_kept.proofs.main.Tie as tie
+use Rattle.tests_census.proofs.counts.print_counts.Statement.{statement}
+use Rattle.tests_census.proofs.counts.print_counts.Tie as tie
 
 abbrev Inv-loop : tie.InvT-loop
 Inv-loop size₀ size = size ≤ 23
@@ -28,8 +28,8 @@ loop-again c = search needs
 returns : tie.Need-returns Inv-loop μ-loop
 returns c = search needs
 
-pub main-spec : {M : Type 1} → statement M
-main-spec =
+pub print-counts-spec : {M : Type 1} → statement M
+print-counts-spec =
     tie.close
     (tie.spec
     Inv-loop
