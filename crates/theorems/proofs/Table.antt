@@ -67,14 +67,14 @@ rerooted root e (no-path size lengths r blacks whites thrice twice distinct) = n
 pub table : Table
 unfolding listing completions letters events-letters decimal digits wordAt diagramAt diagramOf spell spells fixedPoints cycles longest period leastOfCycle t wordOf label events event characteristic labels relabel readAnswer read items
 table = record {
-  a = record { items-are = refl; names-are = refl };
-  b = record { items-are = refl; names-are = refl };
-  size-3 = record { items-are = refl; names-are = refl };
+  a = record { items-are = refl; names-are = refl; diagrams-are = refl };
+  b = record { items-are = refl; names-are = refl; diagrams-are = refl };
+  size-3 = record { items-are = refl; names-are = refl; diagrams-are = refl };
   c = record { word-is = refl; name-is = refl; lists-are = refl; e2-is = refl; e3-is = refl; c-is = refl; t-is = refl; level-is = refl; mark-is = inl (refl, kept-1) };
   d = record { word-is = refl; name-is = refl; lists-are = refl; e2-is = refl; e3-is = refl; c-is = refl; t-is = refl; level-is = refl; mark-is = inl (refl, kept-2) };
   e = record { word-is = refl; name-is = refl; lists-are = refl; e2-is = refl; e3-is = refl; c-is = refl; t-is = refl; level-is = refl; mark-is = inr (refl, not-kept-3) };
   f = record { word-is = refl; name-is = refl; lists-are = refl; e2-is = refl; e3-is = refl; c-is = refl; t-is = refl; level-is = refl; mark-is = inr (refl, not-kept-4) };
-  g = record { items-are = refl; names-are = refl };
+  g = record { items-are = refl; names-are = refl; diagrams-are = refl };
   h = record { accepted = h-accepted; word-is = refl; name-is = refl; lists-are = refl };
   i = λ root e. rerooted root e distinct-refused;
   j = (refl, λ room0 room1. refl);

@@ -3,7 +3,8 @@
 --
 --   U, T, W, F, B, J, ..       the bytes of the event letters, and of the digits 0 and 1
 --   named ws                   the words ws in their event letters
---   Words n items names        the words of size n, in order, are `items`; in letters they are `names`
+--   pair s0 s1                 the diagram of these two lists
+--   Words n items names ds     the words of size n, in order, are `items`; in letters they are `names`; they spell the diagrams ds
 --   Line p ..                  line p of the census of size 3: its word, letters, s0, s1, invariants and keep mark (1: K, 0: a hyphen)
 --   RelabelsTo s0 s1 root ..   check accepts the diagram, and it has that word, those letters and that characteristic labelling
 --   Share n k j p q            share j of k holds the positions p to q of size n
@@ -12,13 +13,15 @@
 -- wordOf, characteristic (labelling); Accepts, CheckPromise (diagrams, Check); readAnswer (words_reading, Read); first, last, ShareHolds (book);
 -- CountPromise, DiagramAtPromise (listing_ranking, Promises); opened, claim-book, commit-answer (book, Calls).
 use mathlib.Core.Path.{_≡_}
-use mathlib.Core.List.{List, [], _∷_}
+use mathlib.Core.List.{List, [], _∷_, map}
+use mathlib.Core.Option.{some}
 use Prim.Native.Nat.{ℕ}
 use lib.IntN.{ℤ, pos}
 use Rattle.lists.specs.Lists.{at}
 use Rattle.lists.specs.Ranges.{OneTo}
 use Rattle.diagrams.specs.Check.{Accepts, CheckPromise}
 use Rattle.diagrams.specs.declared.Verdict.the-variants as verdict
+use Rattle.words.specs.Word.{Pair, spell}
 use Rattle.words.specs.Letters.{letters}
 use Rattle.words.specs.Outputs.{overwrite, Short}
 use Rattle.words_reading.specs.Read.{readAnswer, refused}
@@ -70,10 +73,14 @@ named (w ∷ ws) = letters w ∷ named ws
 
 -- ---- lines of the table
 
+abbrev pub pair : List ℕ → List ℕ → Pair
+pair s0 s1 = record { black = s0; white = s1 }
+
 -- all words of a size, in dictionary order
-pub record Words (n : ℕ) (items names : List (List ℕ)) : Type 0 where
+pub record Words (n : ℕ) (items names : List (List ℕ)) (diagrams : List Pair) : Type 0 where
   pub items-are : listing n ≡ items
   pub names-are : named items ≡ names
+  pub diagrams-are : map spell items ≡ map some diagrams
 
 -- a line that the census program prints for size 3
 pub record Line (p : ℕ) (word name s0 s1 : List ℕ) (e2 e3 c : ℕ) (t : ℤ) (level mark : ℕ) : Type 0 where
@@ -103,12 +110,13 @@ pub record Share (n k j p q : ℕ) : Type 0 where
 
 pub record Table : Type 0 where
   -- (a) size 1 is UW
-  pub a : Words 1 ((0 ∷ 0 ∷ []) ∷ []) ((U ∷ W ∷ []) ∷ [])
+  pub a : Words 1 ((0 ∷ 0 ∷ []) ∷ []) ((U ∷ W ∷ []) ∷ []) (pair (1 ∷ []) (1 ∷ []) ∷ [])
   -- (b) size 2 is UB
-  pub b : Words 2 ((0 ∷ 2 ∷ []) ∷ []) ((U ∷ B ∷ []) ∷ [])
+  pub b : Words 2 ((0 ∷ 2 ∷ []) ∷ []) ((U ∷ B ∷ []) ∷ []) (pair (1 ∷ 2 ∷ []) (2 ∷ 1 ∷ []) ∷ [])
   -- (c) to (f) the four words above, in order; and then their lines
   pub size-3 : Words 3 ((1 ∷ 0 ∷ 0 ∷ 0 ∷ []) ∷ (1 ∷ 0 ∷ 3 ∷ []) ∷ (1 ∷ 3 ∷ 0 ∷ []) ∷ (1 ∷ 4 ∷ 0 ∷ []) ∷ [])
       ((T ∷ W ∷ W ∷ W ∷ []) ∷ (T ∷ W ∷ J ∷ digit0 ∷ []) ∷ (T ∷ J ∷ digit0 ∷ W ∷ []) ∷ (T ∷ J ∷ digit1 ∷ W ∷ []) ∷ [])
+      (pair (2 ∷ 3 ∷ 1 ∷ []) (1 ∷ 2 ∷ 3 ∷ []) ∷ pair (2 ∷ 3 ∷ 1 ∷ []) (2 ∷ 1 ∷ 3 ∷ []) ∷ pair (2 ∷ 3 ∷ 1 ∷ []) (1 ∷ 3 ∷ 2 ∷ []) ∷ pair (2 ∷ 3 ∷ 1 ∷ []) (3 ∷ 2 ∷ 1 ∷ []) ∷ [])
   -- (c) 1 TWWW 2,3,1 1,2,3 3 0 1 0 3 K
   pub c : Line 1 (1 ∷ 0 ∷ 0 ∷ 0 ∷ []) (T ∷ W ∷ W ∷ W ∷ []) (2 ∷ 3 ∷ 1 ∷ []) (1 ∷ 2 ∷ 3 ∷ []) 3 0 1 (pos 0) 3 1
   -- (d) 2 TWJ0 2,3,1 2,1,3 1 0 2 0 2 K
@@ -121,6 +129,7 @@ pub record Table : Type 0 where
   pub g : Words 4
       ((0 ∷ 1 ∷ 0 ∷ 0 ∷ []) ∷ (0 ∷ 1 ∷ 3 ∷ []) ∷ (1 ∷ 0 ∷ 0 ∷ 2 ∷ []) ∷ (1 ∷ 0 ∷ 2 ∷ 0 ∷ []) ∷ (1 ∷ 2 ∷ 0 ∷ 0 ∷ []) ∷ (1 ∷ 2 ∷ 3 ∷ []) ∷ (1 ∷ 3 ∷ 2 ∷ []) ∷ (1 ∷ 4 ∷ 2 ∷ []) ∷ [])
       ((U ∷ F ∷ W ∷ W ∷ []) ∷ (U ∷ F ∷ J ∷ digit0 ∷ []) ∷ (T ∷ W ∷ W ∷ B ∷ []) ∷ (T ∷ W ∷ B ∷ W ∷ []) ∷ (T ∷ B ∷ W ∷ W ∷ []) ∷ (T ∷ B ∷ J ∷ digit0 ∷ []) ∷ (T ∷ J ∷ digit0 ∷ B ∷ []) ∷ (T ∷ J ∷ digit1 ∷ B ∷ []) ∷ [])
+      (pair (1 ∷ 3 ∷ 4 ∷ 2 ∷ []) (2 ∷ 1 ∷ 3 ∷ 4 ∷ []) ∷ pair (1 ∷ 3 ∷ 4 ∷ 2 ∷ []) (2 ∷ 1 ∷ 4 ∷ 3 ∷ []) ∷ pair (2 ∷ 3 ∷ 1 ∷ 4 ∷ []) (4 ∷ 2 ∷ 3 ∷ 1 ∷ []) ∷ pair (2 ∷ 3 ∷ 1 ∷ 4 ∷ []) (1 ∷ 4 ∷ 3 ∷ 2 ∷ []) ∷ pair (2 ∷ 3 ∷ 1 ∷ 4 ∷ []) (1 ∷ 2 ∷ 4 ∷ 3 ∷ []) ∷ pair (2 ∷ 3 ∷ 1 ∷ 4 ∷ []) (2 ∷ 1 ∷ 4 ∷ 3 ∷ []) ∷ pair (2 ∷ 3 ∷ 1 ∷ 4 ∷ []) (4 ∷ 3 ∷ 2 ∷ 1 ∷ []) ∷ pair (2 ∷ 3 ∷ 1 ∷ 4 ∷ []) (3 ∷ 4 ∷ 1 ∷ 2 ∷ []) ∷ [])
   -- (h) s0 1,3,4,2, s1 2,1,3,4, root 3 gives TBWW, s0 2,3,1,4, s1 1,2,4,3
   pub h : RelabelsTo (1 ∷ 3 ∷ 4 ∷ 2 ∷ []) (2 ∷ 1 ∷ 3 ∷ 4 ∷ []) 3 (1 ∷ 2 ∷ 0 ∷ 0 ∷ []) (T ∷ B ∷ W ∷ W ∷ []) (2 ∷ 3 ∷ 1 ∷ 4 ∷ []) (1 ∷ 2 ∷ 4 ∷ 3 ∷ [])
   -- (i) s0 1,2 with s1 1,2 is refused 8, whichever edge is the root
