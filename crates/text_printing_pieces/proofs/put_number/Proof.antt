@@ -1,8 +1,8 @@
--- The promise of words::put_decimal, as a piece that is put.
-use Rattle.text_printing.proofs.Printing.{put-of}
+-- The promise of words_decimals::put_decimal, as a piece that is put.
+use Rattle.text_printing_pieces.proofs.Pieces.{put-of}
 use borrow.Author.Needs.{needs}
-use Rattle.text_printing.proofs.put_number.Statement.{statement}
-use Rattle.text_printing.proofs.put_number.Tie as tie
+use Rattle.text_printing_pieces.proofs.put_number.Statement.{statement}
+use Rattle.text_printing_pieces.proofs.put_number.Tie as tie
 
 put-decimal-requires : tie.Need-put-decimal-requires
 put-decimal-requires c κs = search needs

@@ -3,16 +3,16 @@ use mathlib.Core.Path.{sym}
 use Prim.Native.Nat.{_-_}
 use native.Mathlib.Omega.{arith}
 use lib.ListN.{length}
-use Rattle.text_printing.proofs.Printing.{put-short, Copied, copied-none, copied-more, copied-all}
+use Rattle.text_printing_pieces.proofs.Pieces.{put-short, Copied, copied-none, copied-more, copied-all}
 use borrow.Author.Needs.{needs}
-use Rattle.text_printing.proofs.put_text.Statement.{statement}
-use Rattle.text_printing.proofs.put_text.Tie as tie
+use Rattle.text_printing_pieces.proofs.put_text.Statement.{statement}
+use Rattle.text_printing_pieces.proofs.put_text.Tie as tie
 
 abbrev Inv-loop : tie.InvT-loop
-Inv-loop out₀ at text i₀ out i = Copied out₀ at text out i
+Inv-loop out₀ place text i₀ out i = Copied out₀ place text out i
 
 abbrev μ-loop : tie.MeasureT-loop
-μ-loop out₀ at text i₀ out i = length text - i
+μ-loop out₀ place text i₀ out i = length text - i
 
 returns : tie.Need-returns Inv-loop μ-loop
 returns c = sym (put-short _ _ (omega arith))

@@ -3,17 +3,18 @@ use mathlib.Core.Path.{_≡_, refl, sym, ap, _∙_}
 use Prim.Native.Nat.{_-_}
 use native.Mathlib.Omega.{arith}
 use lib.ListN.{length, drop}
-use Rattle.text_printing.specs.Printing.{output, putAll, entryPieces}
-use Rattle.text_printing.proofs.Printing.{list-none, list-first, entries-more, entries-past}
+use Rattle.text_printing_pieces.specs.Pieces.{output, putAll}
+use Rattle.text_printing_lists.specs.Lists.{entryPieces}
+use Rattle.text_printing_lists.proofs.Lists.{list-none, list-first, entries-more, entries-past}
 use borrow.Author.Needs.{needs}
-use Rattle.text_printing.proofs.put_list.Statement.{statement}
-use Rattle.text_printing.proofs.put_list.Tie as tie
+use Rattle.text_printing_lists.proofs.put_list.Statement.{statement}
+use Rattle.text_printing_lists.proofs.put_list.Tie as tie
 
 abbrev Inv-loop : tie.InvT-loop
-Inv-loop out₀ at list next₀ i₀ out next i = (length out ≡ length out₀) × (putAll (entryPieces (drop i list)) (output out next) ≡ putAll (entryPieces (drop 1 list)) (output out₀ next₀))
+Inv-loop out₀ place list next₀ i₀ out next i = (length out ≡ length out₀) × (putAll (entryPieces (drop i list)) (output out next) ≡ putAll (entryPieces (drop 1 list)) (output out₀ next₀))
 
 abbrev μ-loop : tie.MeasureT-loop
-μ-loop out₀ at list next₀ i₀ out next i = length list - i
+μ-loop out₀ place list next₀ i₀ out next i = length list - i
 
 put-byte-requires : tie.Need-put-byte-requires Inv-loop μ-loop
 put-byte-requires c κs = search needs

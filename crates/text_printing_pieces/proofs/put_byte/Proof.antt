@@ -1,10 +1,10 @@
 -- A byte for which there is no room, and one that is stored.
 use mathlib.Core.Path.{sym}
 use native.Mathlib.Omega.{arith}
-use Rattle.text_printing.proofs.Printing.{put-short, put-byte-fits}
+use Rattle.text_printing_pieces.proofs.Pieces.{put-short, put-byte-fits}
 use borrow.Author.Needs.{needs}
-use Rattle.text_printing.proofs.put_byte.Statement.{statement}
-use Rattle.text_printing.proofs.put_byte.Tie as tie
+use Rattle.text_printing_pieces.proofs.put_byte.Statement.{statement}
+use Rattle.text_printing_pieces.proofs.put_byte.Tie as tie
 
 returns : tie.Need-returns
 returns c = sym (put-short _ _ (omega arith))

@@ -1,11 +1,11 @@
 -- A comma, and then a number.
 use mathlib.Core.Path.{sym, ap, _∙_}
-use Rattle.words.specs.Letters.{decimal}
-use Rattle.text_printing.specs.Printing.{put}
-use Rattle.text_printing.proofs.Printing.{entry-one}
+use Rattle.words_decimals.specs.Decimals.{decimal}
+use Rattle.text_printing_pieces.specs.Pieces.{put}
+use Rattle.text_printing_lists.proofs.Lists.{entry-one}
 use borrow.Author.Needs.{needs}
-use Rattle.text_printing.proofs.put_entry.Statement.{statement}
-use Rattle.text_printing.proofs.put_entry.Tie as tie
+use Rattle.text_printing_lists.proofs.put_entry.Statement.{statement}
+use Rattle.text_printing_lists.proofs.put_entry.Tie as tie
 
 put-byte-requires : tie.Need-put-byte-requires
 put-byte-requires c κs = search needs
