@@ -7,10 +7,10 @@ use native.Mathlib.Omega.{arith}
 use lib.ListN.{getD}
 use Rattle.lists.specs.Lists.{Has}
 use Rattle.lists.proofs.Lists.{has-getD}
-use Rattle.words_reading.specs.State.{State, ReadingHeld}
-use Rattle.words_reading.proofs.EventLaws.{pending-given, join-refused, join-stands}
-use Rattle.words_reading.proofs.join_pending.Statement.{statement}
-use Rattle.words_reading.proofs.join_pending.Tie as tie
+use Rattle.words_reading_events.specs.State.{State, ReadingHeld}
+use Rattle.words_reading_events.proofs.EventLaws.{pending-given, join-refused, join-stands}
+use Rattle.words_reading_events.proofs.join_pending.Statement.{statement}
+use Rattle.words_reading_events.proofs.join_pending.Tie as tie
 
 -- the label found is the one that stands d places below the top
 found : (c : tie.After-label-at) (x0 : List ℕ) (t : State) →

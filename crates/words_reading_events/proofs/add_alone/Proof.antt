@@ -1,9 +1,9 @@
 -- B: refused 24 where the label is above 1,024; otherwise the stores are those of `alone-stands`.
 use borrow.Author.Needs.{needs}
 use native.Mathlib.Omega.{arith}
-use Rattle.words_reading.proofs.EventLaws.{alone-refused, alone-stands}
-use Rattle.words_reading.proofs.add_alone.Statement.{statement}
-use Rattle.words_reading.proofs.add_alone.Tie as tie
+use Rattle.words_reading_events.proofs.EventLaws.{alone-refused, alone-stands}
+use Rattle.words_reading_events.proofs.add_alone.Statement.{statement}
+use Rattle.words_reading_events.proofs.add_alone.Tie as tie
 
 cast-if1 : tie.Need-cast-if1
 cast-if1 c = search needs
