@@ -1,3 +1,1 @@
-pub mod Flat
-pub mod Past
 pub mod Table

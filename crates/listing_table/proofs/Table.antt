@@ -14,7 +14,8 @@ use Rattle.lists.proofs.Ranges.{every-true}
 use Rattle.words.specs.Shape.{pre, less1, less3}
 use Rattle.listing.specs.Listing.{ways}
 use Rattle.listing.proofs.Completions.{less1-same, less3-same, pre-le, sum, ways-0-0, ways-0, ways-suc}
-use Rattle.listing_table.specs.Rows.{rows, entry, WaysPromise}
+use Rattle.listing_table_rows.specs.Rows.{rows, entry}
+use Rattle.listing_table.specs.Ways.{WaysPromise}
 
 -- what the neighbours of the entry for a stack of height h + 1 give
 ruled : (ℕ → ℕ → ℕ) → ℕ → ℕ → ℕ

@@ -1,9 +1,6 @@
 // How many ways there are to go on from a stack of height h with f labels free, as far as sizes up to 50 need it.
-mod low;
-mod rows;
-
 ghost use mathlib.Core.Path.{_≡_};
-ghost use Rattle.listing_table.specs.Rows.{entry, WaysPromise};
+ghost use Rattle.listing_table.specs.Ways.{entry, WaysPromise};
 
 // The number in the table; 0 where it has none.
 fn look(h: usize, f: usize) -> u64
@@ -13,22 +10,22 @@ fn look(h: usize, f: usize) -> u64
         return 0;
     }
     if h < 6 {
-        return low::number(57 * h + f);
+        return listing_table_low::number(57 * h + f);
     }
     match h {
-        6 => rows::row6(f),
-        7 => rows::row7(f),
-        8 => rows::row8(f),
-        9 => rows::row9(f),
-        10 => rows::row10(f),
-        11 => rows::row11(f),
-        12 => rows::row12(f),
-        13 => rows::row13(f),
-        14 => rows::row14(f),
-        15 => rows::row15(f),
-        16 => rows::row16(f),
-        17 => rows::row17(f),
-        18 => rows::row18(f),
+        6 => listing_table_rows::row6(f),
+        7 => listing_table_rows::row7(f),
+        8 => listing_table_rows::row8(f),
+        9 => listing_table_rows::row9(f),
+        10 => listing_table_rows::row10(f),
+        11 => listing_table_rows::row11(f),
+        12 => listing_table_rows::row12(f),
+        13 => listing_table_rows::row13(f),
+        14 => listing_table_rows::row14(f),
+        15 => listing_table_rows::row15(f),
+        16 => listing_table_rows::row16(f),
+        17 => listing_table_rows::row17(f),
+        18 => listing_table_rows::row18(f),
         _ => 0,
     }
 }

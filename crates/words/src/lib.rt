@@ -64,24 +64,24 @@ fn events_fit(items: &[u16], room: usize) -> bool
 }
 
 // Writes the letters of an event at a place and returns the place after them.
-fn put_event(out: &mut [u8], at: usize, x: u16) -> usize
-    requires { ⌜ at + length (event-letters x) ≤ length (now out) ⌝ }
-    ensures { λ r. ⌜ BytesWritten (now (out .entry)) at (event-letters x) r (now (out .exit)) ⌝ }
+fn put_event(out: &mut [u8], place: usize, x: u16) -> usize
+    requires { ⌜ place + length (event-letters x) ≤ length (now out) ⌝ }
+    ensures { λ r. ⌜ BytesWritten (now (out .entry)) place (event-letters x) r (now (out .exit)) ⌝ }
 {
     if x < 3 {
-        out[at] = event_letter(x);
-        return at + 1;
+        out[place] = event_letter(x);
+        return place + 1;
     }
-    out[at] = b'J';
-    put_decimal(out, at + 1, (x - 3) as u64)
+    out[place] = b'J';
+    put_decimal(out, place + 1, (x - 3) as u64)
 }
 
 // The same for events one after another.
-fn put_events(out: &mut [u8], at: usize, items: &[u16]) -> usize
-    requires { ⌜ at + length (events-letters (now items)) ≤ length (now out) ⌝ }
-    ensures { λ r. ⌜ BytesWritten (now (out .entry)) at (events-letters (now (items .entry))) r (now (out .exit)) ⌝ }
+fn put_events(out: &mut [u8], place: usize, items: &[u16]) -> usize
+    requires { ⌜ place + length (events-letters (now items)) ≤ length (now out) ⌝ }
+    ensures { λ r. ⌜ BytesWritten (now (out .entry)) place (events-letters (now (items .entry))) r (now (out .exit)) ⌝ }
 {
-    let mut next = at;
+    let mut next = place;
     let mut i: usize = 0;
     while i < items.len() {
         next = put_event(out, next, items[i]);

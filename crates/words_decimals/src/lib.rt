@@ -18,23 +18,23 @@ pub fn decimal_length(m: u64) -> usize
 
 // Writes m in decimal at a place of out and returns the place after it. Where it does not fit, it writes nothing and returns
 // the place itself.
-pub fn put_decimal(out: &mut [u8], at: usize, m: u64) -> usize
-    ensures { λ r. ⌜ BytesPut (now (out .entry)) at (decimal m) r (now (out .exit)) ⌝ }
+pub fn put_decimal(out: &mut [u8], place: usize, m: u64) -> usize
+    ensures { λ r. ⌜ BytesPut (now (out .entry)) place (decimal m) r (now (out .exit)) ⌝ }
 {
     let n = decimal_length(m);
-    if out.len() < at {
-        return at;
+    if out.len() < place {
+        return place;
     }
-    if out.len() - at < n {
-        return at;
+    if out.len() - place < n {
+        return place;
     }
-    let mut end = at + n;
+    let mut end = place + n;
     let mut x = m;
     while 10 <= x {
         end -= 1;
         out[end] = 48 + (x % 10) as u8;
         x /= 10;
     }
-    out[at] = 48 + x as u8;
-    at + n
+    out[place] = 48 + x as u8;
+    place + n
 }

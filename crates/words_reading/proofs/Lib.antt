@@ -1,4 +1,3 @@
-pub mod Stores
-pub mod EventLaws
+pub mod ReadingLaws
 pub mod Spelling
 pub mod Examples

@@ -3,26 +3,24 @@
 // and both lists to have room.
 use diagrams::Diagram;
 use lists::fill;
-use lists::pair;
 use lists::to_index;
+use words_reading_events::Step;
+use words_reading_events::add_alone;
+use words_reading_events::add_triple;
+use words_reading_events::close_alone;
+use words_reading_events::join_pending;
+use words_reading_events::push_two;
 ghost use mathlib.Core.Path.{_≡_};
 ghost use mathlib.Core.List.{List, [], _∷_};
-ghost use Prim.Native.Nat.{ℕ, suc, _<_};
+ghost use Prim.Native.Nat.{ℕ, _<_};
 ghost use lib.ListN.{length};
-ghost use Rattle.lists.specs.Ranges.{OneTo};
 ghost use Rattle.pending_ring.specs.Ring.{Ring};
-ghost use Rattle.words_reading.specs.Read.{items, readFirst, withRoom, readAnswer, ReadPromise};
-ghost use Rattle.words_reading.specs.State.{State, afterU, afterT, readOn, ReadingHeld, ReadingAfter};
+ghost use Rattle.words_reading.specs.Read.{readFirst, withRoom, readAnswer, ReadPromise};
+ghost use Rattle.words_reading_events.specs.State.{State, afterU, afterT, readOn, ReadingHeld, ReadingAfter};
 
 // The size of the diagram that was written, or the number of the refusal.
 pub enum Reading {
     Size(u16),
-    Refused(u16),
-}
-
-// What an item leads to: how many labels are given and how many of them pending, or a refusal.
-enum Step {
-    Next { used: u16, height: u16 },
     Refused(u16),
 }
 
@@ -58,100 +56,7 @@ fn start_triple(
     x1[1] = 2;
     x1[2] = 3;
     pending_ring::push(next, prev, 1);
-    pending_ring::push(next, prev, 2);
-    pending_ring::push(next, prev, 3);
-}
-
-// W: the label that was popped is its own white partner, as the list has it already.
-fn close_alone(used: u16, height: u16) -> Step
-    ensures { λ r. ⌜ r ≡ Step.Next used height ⌝ }
-{
-    Step::Next { used, height }
-}
-
-// F: the partner of k is the next free label, on a black vertex with the two labels after it, which are pushed.
-fn add_triple(
-    next: &mut [u16; 1025],
-    prev: &mut [u16; 1025],
-    x0: &mut [u16; Diagram::MAX_SIZE],
-    x1: &mut [u16; Diagram::MAX_SIZE],
-    k: u16,
-    used: u16,
-    height: u16,
-) -> Step
-    requires { ⌜ OneTo used k ⌝ }
-    requires { ⌜ ((t : State) × ReadingHeld (now next) (now prev) (now x0) (now x1) used height t) ⌝ }
-    ensures { λ r. ⌜ ((t : State) → ReadingHeld (now (next .entry)) (now (prev .entry)) (now (x0 .entry)) (now (x1 .entry)) used height t → (w : List ℕ)
-        → ReadingAfter (items (1 ∷ w) (k ∷ t .stack) (t .black) (t .white)) w r (now (next .exit)) (now (prev .exit)) (now (x0 .exit)) (now (x1 .exit))) ⌝ }
-{
-    if (Diagram::MAX_SIZE as u16) < used + 3 {
-        return Step::Refused(24);
-    }
-    let place = to_index(used);
-    x0[place] = used + 2;
-    x0[place + 1] = used + 3;
-    x0[place + 2] = used + 1;
-    pair(x1, k, used + 1);
-    x1[place + 1] = used + 2;
-    x1[place + 2] = used + 3;
-    pending_ring::push(next, prev, used + 2);
-    pending_ring::push(next, prev, used + 3);
-    Step::Next {
-        used: used + 3,
-        height: height + 2,
-    }
-}
-
-// B: the partner of k is the next free label, alone on its black vertex.
-fn add_alone(
-    x0: &mut [u16; Diagram::MAX_SIZE],
-    x1: &mut [u16; Diagram::MAX_SIZE],
-    k: u16,
-    used: u16,
-    height: u16,
-) -> Step
-    requires { ⌜ OneTo used k ⌝ }
-    requires { ⌜ ((nx pv : List ℕ) × (t : State) × ReadingHeld nx pv (now x0) (now x1) used height t) ⌝ }
-    ensures { λ r. ⌜ ((nx pv : List ℕ) (t : State) → ReadingHeld nx pv (now (x0 .entry)) (now (x1 .entry)) used height t → (w : List ℕ)
-        → ReadingAfter (items (2 ∷ w) (k ∷ t .stack) (t .black) (t .white)) w r nx pv (now (x0 .exit)) (now (x1 .exit))) ⌝ }
-{
-    if (Diagram::MAX_SIZE as u16) < used + 1 {
-        return Step::Refused(24);
-    }
-    let place = to_index(used);
-    x0[place] = used + 1;
-    pair(x1, k, used + 1);
-    Step::Next {
-        used: used + 1,
-        height,
-    }
-}
-
-// Jd: the partner of k is the pending label d places below the top; it is taken out.
-fn join_pending(
-    next: &mut [u16; 1025],
-    prev: &mut [u16; 1025],
-    x1: &mut [u16; Diagram::MAX_SIZE],
-    k: u16,
-    d: u16,
-    used: u16,
-    height: u16,
-) -> Step
-    requires { ⌜ OneTo used k ⌝ }
-    requires { ⌜ ((x0 : List ℕ) × (t : State) × ReadingHeld (now next) (now prev) x0 (now x1) used height t) ⌝ }
-    ensures { λ r. ⌜ ((x0 : List ℕ) (t : State) → ReadingHeld (now (next .entry)) (now (prev .entry)) x0 (now (x1 .entry)) used height t → (w : List ℕ)
-        → ReadingAfter (items (suc (suc (suc d)) ∷ w) (k ∷ t .stack) (t .black) (t .white)) w r (now (next .exit)) (now (prev .exit)) x0 (now (x1 .exit))) ⌝ }
-{
-    if height <= d {
-        return Step::Refused(23);
-    }
-    let p = pending_ring::label_at(next, to_index(d));
-    pending_ring::unhook(next, prev, p);
-    pair(x1, k, p);
-    Step::Next {
-        used,
-        height: height - 1,
-    }
+    push_two(next, prev, 2);
 }
 
 // One item after the first.

@@ -1,4 +1,1 @@
-pub mod Lists
-pub mod Holding
-pub mod Undone
 pub mod Laws

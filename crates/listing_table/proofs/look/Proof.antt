@@ -2,8 +2,8 @@
 use mathlib.Core.Path.{sym, _∙_}
 use native.Mathlib.Omega.{arith}
 use borrow.Author.Needs.{needs}
-use Rattle.listing_table.proofs.Flat.{low-at}
-use Rattle.listing_table.proofs.Past.{above}
+use Rattle.listing_table_low.proofs.Flat.{low-at}
+use Rattle.listing_table_rows.proofs.Past.{above}
 use Rattle.listing_table.proofs.Table.{outside}
 use Rattle.listing_table.proofs.look.Statement.{statement}
 use Rattle.listing_table.proofs.look.Tie as tie

@@ -24,7 +24,7 @@ enum-known-lettered : tie.Need-enum-known-lettered
 enum-known-lettered c = search needs
 
 add-result : tie.Need-add-result
-add-result c = omega (arith, letters-within (c .before .before .before .before .before .before .before .before .before .before .args .out .now) (c .before .before .before .before .before .before .before .before .before .before .args .at) (c .before .before .before .before .before .before .before .if1 .left) (c .before .before .before .before .before .before .before .before .before .before .args .word .now) (c .before .before .before .before .before .letters .last .1 .0) _ _ (c .before .lettered .given .1) (c .before .before .before .before .before .letters .ensures))
+add-result c = omega (arith, letters-within (c .before .before .before .before .before .before .before .before .before .before .args .out .now) (c .before .before .before .before .before .before .before .before .before .before .args .place) (c .before .before .before .before .before .before .before .if1 .left) (c .before .before .before .before .before .before .before .before .before .before .args .word .now) (c .before .before .before .before .before .letters .last .1 .0) _ _ (c .before .lettered .given .1) (c .before .before .before .before .before .letters .ensures))
 
 enum-told : tie.Need-enum-told
 enum-told c = search needs

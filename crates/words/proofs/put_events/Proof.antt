@@ -9,10 +9,10 @@ use Rattle.words.proofs.put_events.Statement.{statement}
 use Rattle.words.proofs.put_events.Tie as tie
 
 abbrev Inv-loop : tie.InvT-loop
-Inv-loop out₀ at items next₀ i₀ out next i = Rest out₀ at items out next i
+Inv-loop out₀ place items next₀ i₀ out next i = Rest out₀ place items out next i
 
 abbrev μ-loop : tie.MeasureT-loop
-μ-loop out₀ at items next₀ i₀ out next i = length items - i
+μ-loop out₀ place items next₀ i₀ out next i = length items - i
 
 loop-holds : tie.Need-loop-holds Inv-loop μ-loop
 loop-holds c = record { place = refl; within = c .before .before .pre; long = refl; rest = refl }

@@ -10,10 +10,10 @@ use Rattle.words_decimals.proofs.put_decimal.Statement.{statement}
 use Rattle.words_decimals.proofs.put_decimal.Tie as tie
 
 abbrev Inv-loop : tie.InvT-loop
-Inv-loop out₀ at m n end₀ x₀ out end x = Left out₀ at m out end x
+Inv-loop out₀ place m n end₀ x₀ out end x = Left out₀ place m out end x
 
 abbrev μ-loop : tie.MeasureT-loop
-μ-loop out₀ at m n end₀ x₀ out end x = x
+μ-loop out₀ place m n end₀ x₀ out end x = x
 
 decimal-length-requires : tie.Need-decimal-length-requires Inv-loop μ-loop
 decimal-length-requires c κs = search needs
@@ -31,7 +31,7 @@ add-end : tie.Need-add-end Inv-loop μ-loop
 add-end c = omega arith
 
 loop-holds : tie.Need-loop-holds Inv-loop μ-loop
-loop-holds c = record { small = omega arith; place = ap (λ k. c .before .before .before .before .args .at + k) (c .before .before .decimal-length .ensures); within = omega arith; long = refl; rest = refl }
+loop-holds c = record { small = omega arith; place = ap (λ k. c .before .before .before .before .args .place + k) (c .before .before .decimal-length .ensures); within = omega arith; long = refl; rest = refl }
 
 sub-end : tie.Need-sub-end Inv-loop μ-loop
 sub-end c = omega (arith, decimal-some (c .before .loop .x))
@@ -67,7 +67,7 @@ same-length : tie.Need-same-length Inv-loop μ-loop
 same-length c = simp length-set (c .before .loop .inv .long)
 
 returns-3 : tie.Need-returns-3 Inv-loop μ-loop
-returns-3 c = wrote-put _ _ _ _ _ (omega arith) record { next = ap (λ k. c .before .before .before .before .before .before .args .at + k) (c .before .before .before .before .decimal-length .ensures); bytes = left-last _ _ _ _ _ _ (c .before .loop .inv) (c .loop-test .left) }
+returns-3 c = wrote-put _ _ _ _ _ (omega arith) record { next = ap (λ k. c .before .before .before .before .before .before .args .place + k) (c .before .before .before .before .decimal-length .ensures); bytes = left-last _ _ _ _ _ _ (c .before .loop .inv) (c .loop-test .left) }
 
 pub put-decimal-spec : {M : Type 1} → statement M
 put-decimal-spec =

@@ -4,8 +4,9 @@ use mathlib.Core.Path.{_≡_}
 use Prim.Native.Nat.{suc, _-_}
 use native.Mathlib.Omega.{arith}
 use Rattle.lists.specs.Ranges.{OneTo}
-use Rattle.words_reading.specs.State.{State, ReadingHeld}
-use Rattle.words_reading.proofs.EventLaws.{popped, popped-holds, pending-given, item-met, item-refused, alone-closed}
+use Rattle.words_reading_events.specs.State.{State, ReadingHeld}
+use Rattle.words_reading_events.proofs.EventLaws.{pending-given}
+use Rattle.words_reading.proofs.ReadingLaws.{popped, popped-holds, item-met, item-refused, alone-closed}
 use Rattle.words_reading.proofs.event.Statement.{statement}
 use Rattle.words_reading.proofs.event.Tie as tie
 

@@ -3,8 +3,8 @@ use mathlib.Core.Path.{_≡_, refl, _∙_}
 use Prim.Native.Nat.{_+_, _-_, _≤_}
 use lib.ListN.{length, drop}
 use borrow.Author.Needs.{needs}
-use Rattle.words_reading.specs.State.{State, readOn, ReadingHeld}
-use Rattle.words_reading.proofs.EventLaws.{rest-next, rest-end}
+use Rattle.words_reading_events.specs.State.{State, readOn, ReadingHeld}
+use Rattle.words_reading.proofs.ReadingLaws.{rest-next, rest-end}
 use Rattle.words_reading.proofs.events.Statement.{statement}
 use Rattle.words_reading.proofs.events.Tie as tie
 

@@ -5,7 +5,7 @@ use Prim.Native.Nat.{_≤_}
 use native.Mathlib.Omega.{arith}
 use lib.ListN.{length}
 use lib.Seq.{length-take-le}
-use Rattle.words_reading.proofs.EventLaws.{end-refused, room-refused-black, room-refused-white, room-gave}
+use Rattle.words_reading.proofs.ReadingLaws.{end-refused, room-refused-black, room-refused-white, room-gave}
 use Rattle.words_reading.proofs.finish.Statement.{statement}
 use Rattle.words_reading.proofs.finish.Tie as tie
 

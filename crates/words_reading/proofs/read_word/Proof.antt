@@ -3,8 +3,8 @@ use borrow.Author.Needs.{needs}
 use mathlib.Core.Path.{_≡_, refl, sym}
 use mathlib.Core.List.{[]}
 use Rattle.words_reading.specs.Read.{readFirst, refused}
-use Rattle.words_reading.specs.State.{State, readOn, ReadingHeld}
-use Rattle.words_reading.proofs.EventLaws.{answer-empty, answer-long, answer-opening}
+use Rattle.words_reading_events.specs.State.{State, readOn, ReadingHeld}
+use Rattle.words_reading.proofs.ReadingLaws.{answer-empty, answer-long, answer-opening}
 use Rattle.words_reading.proofs.read_word.Statement.{statement}
 use Rattle.words_reading.proofs.read_word.Tie as tie
 

@@ -1,7 +1,7 @@
 -- The first item gives the state `afterU` or `afterT`, from which the rest is read, or 22.
 use borrow.Author.Needs.{needs}
-use Rattle.words_reading.specs.State.{afterU, afterT}
-use Rattle.words_reading.proofs.EventLaws.{opening-alone, opening-triple, opening-refused}
+use Rattle.words_reading_events.specs.State.{afterU, afterT}
+use Rattle.words_reading.proofs.ReadingLaws.{opening-alone, opening-triple, opening-refused}
 use Rattle.words_reading.proofs.spelled.Statement.{statement}
 use Rattle.words_reading.proofs.spelled.Tie as tie
 

@@ -1,7 +1,7 @@
--- U: the one store to each array and the push give the state `alone`.
+-- U: the one store to each array and the push give the state `afterU`.
 use borrow.Author.Needs.{needs}
 use mathlib.Core.List.{[]}
-use Rattle.words_reading.proofs.EventLaws.{alone-first}
+use Rattle.words_reading.proofs.ReadingLaws.{alone-first}
 use Rattle.words_reading.proofs.start_alone.Statement.{statement}
 use Rattle.words_reading.proofs.start_alone.Tie as tie
 

@@ -1,7 +1,8 @@
 -- `add_event` notes the label on top and reads the item: from the state before it to the state after it.
 use borrow.Author.Needs.{needs}
 use native.Mathlib.Omega.{arith}
-use Rattle.words_respelling.proofs.Laws.{place-low, spelling-midway, spelling-height, spelling-added}
+use Rattle.words_respelling_undo.proofs.Laws.{place-low}
+use Rattle.words_respelling.proofs.Laws.{spelling-midway, spelling-height, spelling-added}
 use Rattle.words_respelling.proofs.add_event.Statement.{statement}
 use Rattle.words_respelling.proofs.add_event.Tie as tie
 

@@ -5,10 +5,10 @@ use mathlib.Core.List.{List}
 use Prim.Native.Nat.{ℕ, _-_, _≤_}
 use native.Mathlib.Omega.{arith}
 use lib.ListN.{length, drop, drop-of-length-le}
-use Rattle.words_spelling.proofs.Lists.{next-item}
+use Rattle.words_spelling_events.proofs.Lists.{next-item}
 use Rattle.words.specs.Word.{Pair}
-use Rattle.words_spelling.specs.States.{State}
-use Rattle.words_spelling.specs.Spelling.{SpellingState}
+use Rattle.words_spelling_events.specs.States.{State}
+use Rattle.words_spelling_events.specs.Spelling.{SpellingState}
 use Rattle.words_spelling.proofs.Laws.{midway-end}
 use Rattle.words_spelling.proofs.events.Statement.{statement}
 use Rattle.words_spelling.proofs.events.Tie as tie

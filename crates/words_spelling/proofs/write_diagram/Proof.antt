@@ -1,7 +1,8 @@
 -- `write_diagram` writes the diagram that the word spells: its first item by `begin`, the rest by `events`.
 use borrow.Author.Needs.{needs}
 use mathlib.Core.Path.{refl}
-use Rattle.words_spelling.proofs.Laws.{word-some, spelt-parts, spelt-room}
+use Rattle.words_spelling_events.proofs.Laws.{word-some}
+use Rattle.words_spelling.proofs.Laws.{spelt-parts, spelt-room}
 use Rattle.words_spelling.proofs.write_diagram.Statement.{statement}
 use Rattle.words_spelling.proofs.write_diagram.Tie as tie
 

@@ -5,7 +5,7 @@ use mathlib.Core.List.{List, _∷_}
 use Prim.Native.Nat.{ℕ, suc, _-_}
 use native.Mathlib.Omega.{arith}
 use Rattle.words.specs.Shape.{Fits}
-use Rattle.words_spelling.proofs.Lists.{jump-item}
+use Rattle.words_spelling_events.proofs.Lists.{jump-item}
 use Rattle.listing_places.proofs.Passing.{height-some, passed-W, free-F, passed-F, free-B, passed-B, sum-B, item-J, from-J}
 use Rattle.listing_places.proofs.ranking.pass.Statement.{statement}
 use Rattle.listing_places.proofs.ranking.pass.Tie as tie

@@ -1,7 +1,7 @@
 -- `position_of`: the rank of the items after the first, among the words that begin with U or after all of them.
 use borrow.Author.Needs.{needs}
 use native.Mathlib.Omega.{arith}
-use Rattle.words_spelling.proofs.Laws.{word-some}
+use Rattle.words_spelling_events.proofs.Laws.{word-some}
 use Rattle.listing_places.proofs.Places.{some-U, fits-U, sum-U, place-U, some-T, fits-T, sum-T, place-T}
 use Rattle.listing_places.proofs.ranking.position_of.Statement.{statement}
 use Rattle.listing_places.proofs.ranking.position_of.Tie as tie

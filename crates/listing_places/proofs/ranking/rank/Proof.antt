@@ -4,7 +4,7 @@ use Prim.Native.Nat.{_+_, _-_, _≤_}
 use native.Mathlib.Omega.{arith}
 use lib.ListN.{length, drop, drop-of-length-le}
 use Rattle.listing.specs.Ranking.{rank}
-use Rattle.words_spelling.proofs.Lists.{next-item}
+use Rattle.words_spelling_events.proofs.Lists.{next-item}
 use Rattle.listing_places.proofs.Passing.{rank-small, Ranked, ranked-more, ranked-end}
 use Rattle.listing_places.proofs.ranking.rank.Statement.{statement}
 use Rattle.listing_places.proofs.ranking.rank.Tie as tie

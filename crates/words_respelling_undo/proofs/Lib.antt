@@ -1,0 +1,4 @@
+pub mod Lists
+pub mod Holding
+pub mod Undone
+pub mod Laws
