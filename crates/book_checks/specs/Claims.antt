@@ -6,7 +6,7 @@ use Prim.Native.Nat.{ℕ}
 use lib.Dec.{ltb}
 use Rattle.book.specs.declared.types.Book.{Book}
 use Rattle.book.specs.Shares.{finished}
-use Rattle.book.specs.Sound.{among}
+use Rattle.book.specs.Valid.{among}
 use Rattle.book.specs.Calls.{unless, not, held}
 
 unfoldable pub share-number : Book → ℕ → ℕ → ℕ

@@ -7,12 +7,12 @@ use book_shares::tests::among;
 use book_shares::tests::both;
 use book_shares::tests::not;
 use book_shares::tests::unless;
-use book_validity::sound;
+use book_validity::valid;
 ghost use mathlib.Core.Path.{_≡_};
 ghost use mathlib.Core.Bool.{true};
 ghost use lib.Dec.{eqb, leb};
 ghost use Rattle.lists.specs.Ranges.{OneTo};
-ghost use Rattle.book.specs.Sound.{both, sound};
+ghost use Rattle.book.specs.Valid.{both, valid};
 ghost use Rattle.book.specs.Calls.{not, claim-number};
 ghost use Rattle.book_entries.specs.Entries.{bookWith, Full};
 ghost use Rattle.book_checks.specs.Claims.{share-number, place-number};
@@ -33,7 +33,7 @@ fn share_number<'a>(
     tick: u64,
     share: u64,
 ) -> u16
-    requires { ⌜ (sound (bookWith h (now nexts) (now tickets) (now expiries)) ≡ true) × OneTo (h .shares) share × Full (now nexts) (now tickets) (now expiries) ⌝ }
+    requires { ⌜ (valid (bookWith h (now nexts) (now tickets) (now expiries)) ≡ true) × OneTo (h .shares) share × Full (now nexts) (now tickets) (now expiries) ⌝ }
     ensures { λ r. ⌜ r ≡ share-number (bookWith h (now (nexts .entry)) (now (tickets .entry)) (now (expiries .entry))) tick share ⌝ }
 {
     let taken = held(entry(tickets, share), entry(expiries, share), tick);
@@ -52,7 +52,7 @@ fn place_number<'a>(
     share: u64,
     length: u64,
 ) -> u16
-    requires { ⌜ (sound (bookWith h (now nexts) (now tickets) (now expiries)) ≡ true) × Full (now nexts) (now tickets) (now expiries) ⌝ }
+    requires { ⌜ (valid (bookWith h (now nexts) (now tickets) (now expiries)) ≡ true) × Full (now nexts) (now tickets) (now expiries) ⌝ }
     ensures { λ r. ⌜ r ≡ place-number (bookWith h (now (nexts .entry)) (now (tickets .entry)) (now (expiries .entry))) tick share length ⌝ }
 {
     if among(h.shares, share) {
@@ -77,7 +77,7 @@ pub fn claim_number<'a>(
     requires { ⌜ Full (now nexts) (now tickets) (now expiries) ⌝ }
     ensures { λ r. ⌜ r ≡ claim-number (bookWith h (now (nexts .entry)) (now (tickets .entry)) (now (expiries .entry))) tick share length ⌝ }
 {
-    if sound(h, nexts, tickets, expiries) {
+    if valid(h, nexts, tickets, expiries) {
         return unless(
             tick_in(h.latest, tick),
             52,

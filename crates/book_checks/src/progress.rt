@@ -5,12 +5,12 @@ use book_shares::last_of;
 ghost use mathlib.Core.Path.{_≡_};
 ghost use mathlib.Core.Bool.{true};
 ghost use Rattle.book.specs.Shares.{committed, complete};
-ghost use Rattle.book.specs.Sound.{sound};
+ghost use Rattle.book.specs.Valid.{valid};
 ghost use Rattle.book_entries.specs.Entries.{bookWith, Full};
 
 // The number of committed positions: of each share, those from its first to the one before its next.
 pub fn committed<'a>(h: Heads, nexts: &'a [u64], tickets: &'a [u64], expiries: &'a [u64]) -> u64
-    requires { ⌜ (sound (bookWith h (now nexts) (now tickets) (now expiries)) ≡ true) × Full (now nexts) (now tickets) (now expiries) ⌝ }
+    requires { ⌜ (valid (bookWith h (now nexts) (now tickets) (now expiries)) ≡ true) × Full (now nexts) (now tickets) (now expiries) ⌝ }
     ensures { λ r. ⌜ r ≡ committed (bookWith h (now (nexts .entry)) (now (tickets .entry)) (now (expiries .entry))) ⌝ }
 {
     let total = count_of(h.size);
@@ -26,7 +26,7 @@ pub fn committed<'a>(h: Heads, nexts: &'a [u64], tickets: &'a [u64], expiries: &
 
 // Every share's next position is past its last.
 pub fn complete<'a>(h: Heads, nexts: &'a [u64], tickets: &'a [u64], expiries: &'a [u64]) -> bool
-    requires { ⌜ (sound (bookWith h (now nexts) (now tickets) (now expiries)) ≡ true) × Full (now nexts) (now tickets) (now expiries) ⌝ }
+    requires { ⌜ (valid (bookWith h (now nexts) (now tickets) (now expiries)) ≡ true) × Full (now nexts) (now tickets) (now expiries) ⌝ }
     ensures { λ r. ⌜ r ≡ complete (bookWith h (now (nexts .entry)) (now (tickets .entry)) (now (expiries .entry))) ⌝ }
 {
     let total = count_of(h.size);

@@ -2,14 +2,14 @@
 use book::Heads;
 use book_shares::entry;
 use book_shares::tests::both;
-use book_validity::sound;
+use book_validity::valid;
 ghost use mathlib.Core.Path.{_≡_};
 ghost use mathlib.Core.List.{List};
 ghost use Prim.Native.Nat.{ℕ, _≤_, _^_};
 ghost use lib.Dec.{leb, ltb};
 ghost use lib.ListN.{length};
 ghost use Rattle.book.specs.Shares.{holder};
-ghost use Rattle.book.specs.Sound.{both};
+ghost use Rattle.book.specs.Valid.{both};
 ghost use Rattle.book_entries.specs.Entries.{bookWith, Full};
 ghost use Rattle.book_checks.specs.Ask.{AskPromise};
 
@@ -56,7 +56,7 @@ pub fn ask<'a>(
     requires { ⌜ Full (now nexts) (now tickets) (now expiries) ⌝ }
     ensures { λ r. ⌜ AskPromise (bookWith h (now (nexts .entry)) (now (tickets .entry)) (now (expiries .entry))) tick ticket r ⌝ }
 {
-    if !sound(h, nexts, tickets, expiries) {
+    if !valid(h, nexts, tickets, expiries) {
         return Asked::Refused(50);
     }
     if !tick_in(h.latest, tick) {

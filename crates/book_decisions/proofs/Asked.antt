@@ -13,4 +13,4 @@ module _ (b : Book) (tick t j : ℕ) (a : AskPromise b tick t (asked.Share j)) w
 
   -- it has an entry in the book's lists
   pub asked-in : OneTo 32 j
-  asked-in = let G = asked-good in let S = G .is-sound in let k = S .shares-in in let e = G .stands .share-in in rw (a .0) (omega arith)
+  asked-in = let G = asked-good in let S = G .is-valid in let k = S .shares-in in let e = G .stands .share-in in rw (a .0) (omega arith)

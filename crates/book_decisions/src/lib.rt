@@ -14,7 +14,7 @@ use book_checks::standing::Asked;
 use book_checks::standing::ask;
 use book_shares::entry;
 use book_shares::past;
-use book_validity::sound;
+use book_validity::valid;
 use listing_ranking::Entry;
 ghost use mathlib.Core.Path.{_≡_};
 ghost use mathlib.Core.Bool.{cond};
@@ -226,7 +226,7 @@ pub fn report<'a>(h: Heads, nexts: &'a [u64], tickets: &'a [u64], expiries: &'a 
     requires { ⌜ Full (now nexts) (now tickets) (now expiries) ⌝ }
     ensures { λ r. ⌜ r ≡ report-answer (bookWith h (now (nexts .entry)) (now (tickets .entry)) (now (expiries .entry))) ⌝ }
 {
-    if !sound(h, nexts, tickets, expiries) {
+    if !valid(h, nexts, tickets, expiries) {
         return Reporting::Refused(50);
     }
     Reporting::Progress {

@@ -7,7 +7,7 @@
 --                           them, and past them its ticket t is 0
 --   once-before l i         the entry at place i of l, from 0, is 0 or stands at no place before
 --   timely t e latest       without a ticket t the expiry e is 0, and it lies at most 65,535 beyond the latest tick
---   entry-sound b j         entry j of the three lists is valid as a share's, or unused
+--   entry-valid b j         entry j of the three lists is valid as a share's, or unused
 use mathlib.Core.Path.{_≡_}
 use mathlib.Core.Bool.{Bool, true, false, cond}
 use mathlib.Core.List.{List}
@@ -18,7 +18,7 @@ use Rattle.lists.specs.Lists.{at}
 use Rattle.lists.specs.Ranges.{every}
 use Rattle.book.specs.declared.types.Book.{Book}
 use Rattle.book.specs.declared.types.Heads.{Heads}
-use Rattle.book.specs.Sound.{both, either, share-sound, entry-unused}
+use Rattle.book.specs.Valid.{both, either, share-valid, entry-unused}
 
 abbrev pub bookOf : ℕ → ℕ → ℕ → ℕ → List ℕ → List ℕ → List ℕ → Book
 bookOf n k tick issues p t e = record { size = n; shares = k; latest = tick; issued = issues; next = p; ticket = t; expiry = e }
@@ -38,5 +38,5 @@ once-before l i = either (eqb (at l (suc i)) 0) (every i (λ m. cond (eqb (at l 
 unfoldable pub timely : ℕ → ℕ → ℕ → Bool
 timely t e latest = both (either (eqb e 0) (cond (eqb t 0) false true)) (leb e (latest + 65535))
 
-abbrev pub entry-sound : Book → ℕ → Bool
-entry-sound b j = cond (leb j (b .shares)) (share-sound b j) (entry-unused b j)
+abbrev pub entry-valid : Book → ℕ → Bool
+entry-valid b j = cond (leb j (b .shares)) (share-valid b j) (entry-unused b j)

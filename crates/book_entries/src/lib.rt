@@ -8,12 +8,12 @@ ghost use mathlib.Core.Path.{_≡_};
 ghost use Prim.Native.Nat.{ℕ, suc, _+_, _<_, _^_};
 ghost use lib.ListN.{length};
 ghost use Rattle.book.specs.Shares.{last};
-ghost use Rattle.book.specs.Sound.{share-sound};
-ghost use Rattle.book_entries.specs.Entries.{bookOf, Full, placed, once-before, timely, entry-sound};
+ghost use Rattle.book.specs.Valid.{share-valid};
+ghost use Rattle.book_entries.specs.Entries.{bookOf, Full, placed, once-before, timely, entry-valid};
 
 // Of a share that holds the positions after `before` up to `end`: its next position p is one of them or just past them, and past them
 // it has no ticket.
-fn place_sound(before: u64, end: u64, p: u64, t: u64) -> bool
+fn place_valid(before: u64, end: u64, p: u64, t: u64) -> bool
     requires { ⌜ (before < 2 ^ 56) × (end < 2 ^ 56) ⌝ }
     ensures { λ r. ⌜ r ≡ placed before end p t ⌝ }
 {
@@ -45,7 +45,7 @@ fn expiry_in(t: u64, e: u64, latest: u64) -> bool
 }
 
 // The share at place i, which holds the positions after `before` up to `end`.
-fn share_sound<'a>(
+fn share_valid<'a>(
     before: u64,
     end: u64,
     latest: u64,
@@ -57,10 +57,10 @@ fn share_sound<'a>(
 ) -> bool
     requires { ⌜ (before < 2 ^ 56) × (end < 2 ^ 56) × (i < 32) × (latest < 2 ^ 48) × Full (now next) (now ticket) (now expiry) ⌝ }
     ensures { λ r. ⌜ ((n k : ℕ) → before ≡ last n k i → end ≡ last n k (i + 1)
-        → r ≡ share-sound (bookOf n k latest issued (now (next .entry)) (now (ticket .entry)) (now (expiry .entry))) (suc i)) ⌝ }
+        → r ≡ share-valid (bookOf n k latest issued (now (next .entry)) (now (ticket .entry)) (now (expiry .entry))) (suc i)) ⌝ }
 {
     let t = ticket[i];
-    if place_sound(before, end, next[i], t) {
+    if place_valid(before, end, next[i], t) {
         return both(
             ticket_once(ticket, i),
             both(t <= issued, expiry_in(t, expiry[i], latest)),
@@ -70,7 +70,7 @@ fn share_sound<'a>(
 }
 
 // Place i, where one of k shares or nothing stands.
-pub fn entry_sound<'a>(
+pub fn entry_valid<'a>(
     before: u64,
     end: u64,
     k: u64,
@@ -83,10 +83,10 @@ pub fn entry_sound<'a>(
 ) -> bool
     requires { ⌜ (before < 2 ^ 56) × (end < 2 ^ 56) × (i < 32) × (latest < 2 ^ 48) × Full (now next) (now ticket) (now expiry) ⌝ }
     ensures { λ r. ⌜ ((n : ℕ) → before ≡ last n k i → end ≡ last n k (i + 1)
-        → r ≡ entry-sound (bookOf n k latest issued (now (next .entry)) (now (ticket .entry)) (now (expiry .entry))) (suc i)) ⌝ }
+        → r ≡ entry-valid (bookOf n k latest issued (now (next .entry)) (now (ticket .entry)) (now (expiry .entry))) (suc i)) ⌝ }
 {
     if (i as u64) < k {
-        return share_sound(before, end, latest, issued, next, ticket, expiry, i);
+        return share_valid(before, end, latest, issued, next, ticket, expiry, i);
     }
     both(next[i] == 0, both(ticket[i] == 0, expiry[i] == 0))
 }

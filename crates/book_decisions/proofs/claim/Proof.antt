@@ -38,7 +38,7 @@ good : (c : tie.Else1) → ClaimGood (lent (c .before .before .before .before .b
 good c = let s = c .before .before .before .before .before in claim-good (lent s) (s .args .tick) (s .args .share) (s .args .length) (sym (c .before .claim-number .ensures) ∙ c .if1 .left)
 
 one-of-32 : (c : tie.Else1) → OneTo 32 (c .before .before .before .before .before .args .share)
-one-of-32 c = let g = good c in let S = g .is-sound in let k = S .shares-in in let e = g .share-in in omega arith
+one-of-32 c = let g = good c in let S = g .is-valid in let k = S .shares-in in let e = g .share-in in omega arith
 
 claim-number-requires : tie.Need-claim-number-requires
 claim-number-requires c κs = search needs

@@ -73,7 +73,7 @@ moved-on-requires c κs =
     let t = c .before .before in
     let s = t .before .before .before .before .before .before .before in
     let G = asked-good _ _ _ _ (share-of t) in
-    let S = G .is-sound in
+    let S = G .is-valid in
     (S .size-in, S .shares-in, one-of-32 t, rw (share-of t .0) (ticket-unfinished (lent s) (s .args .ticket) (holder (lent s) (s .args .ticket)) S (G .stands)), s .pre)
 
 returns-2 : tie.Need-returns-2

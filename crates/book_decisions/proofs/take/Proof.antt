@@ -20,12 +20,12 @@ use Rattle.book.specs.declared.types.Book.{Book}
 use Rattle.book.specs.declared.types.Taking.the-variants as taking
 use Rattle.book_checks.specs.declared.standing.Asked.the-variants as asked
 use Rattle.book.specs.Shares.{next, holder}
-use Rattle.book.specs.Sound.{both}
+use Rattle.book.specs.Valid.{both}
 use Rattle.book.specs.Calls.{due, room, ticked, ticket-number, take-number, take-answer, take-book, take-list}
 use Rattle.book_checks.specs.Ask.{AskPromise}
 use Rattle.book.specs.Taken.{TakePromise}
 use Rattle.book.proofs.Partition.{held-in}
-use Rattle.book.proofs.SoundBook.{both-of}
+use Rattle.book.proofs.ValidBook.{both-of}
 use Rattle.book.proofs.Accepted.{TicketGood, ticket-unfinished}
 use Rattle.book_entries.specs.Entries.{bookWith}
 use Rattle.book_decisions.proofs.Asked.{asked-good, asked-in}
@@ -89,11 +89,11 @@ module _ (b : Book) (tick t : ℕ) where
     -- the next position of a share that is not finished is one of the size's
     position-in : OneTo (count (b .size)) (next b (holder b t))
     position-in =
-        let S = G .is-sound in
+        let S = G .is-valid in
         held-in (b .size) (b .shares) (S .shares-in .0) (holder b t) (next b (holder b t)) record { share = G .stands .share-in; from = S .share (holder b t) (G .stands .share-in) .from; to = ticket-unfinished b t (holder b t) S (G .stands) }
 
     refused-9 : (a0 a1 aw : List ℕ) (k : ℕ) → RefusedAt (b .size) (next b (holder b t)) a0 a1 aw k → (k ≡ 9) × Short (b .size) a0 a1 aw
-    refused-9 a0 a1 aw k (inl r) = absurd (r .1 (G .is-sound .size-in))
+    refused-9 a0 a1 aw k (inl r) = absurd (r .1 (G .is-valid .size-in))
     refused-9 a0 a1 aw k (inr (inl r)) = absurd (r .2 position-in)
     refused-9 a0 a1 aw k (inr (inr r)) = (r .0, r .3)
 

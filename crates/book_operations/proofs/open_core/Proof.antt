@@ -3,9 +3,9 @@ use borrow.Author.Needs.{needs}
 use mathlib.Core.Path.{_≡_, refl, sym, _∙_}
 use mathlib.Core.Bool.{true}
 use borrow.Author.Tests.{not-true, not-false}
-use Rattle.book.specs.Sound.{among}
+use Rattle.book.specs.Valid.{among}
 use Rattle.book.specs.Calls.{open-number, open-answer, open-book}
-use Rattle.book.proofs.SoundBook.{among-true}
+use Rattle.book.proofs.ValidBook.{among-true}
 use Rattle.book_operations.proofs.open_core.Statement.{statement}
 use Rattle.book_operations.proofs.open_core.Tie as tie
 use Rattle.book_operations.proofs.open_core.Reads as reads

@@ -2,7 +2,7 @@
 use borrow.Author.Needs.{needs}
 use mathlib.Core.Path.{sym, _∙_}
 use Rattle.book_checks.specs.Claims.{place-number}
-use Rattle.book.proofs.SoundBook.{among-true}
+use Rattle.book.proofs.ValidBook.{among-true}
 use Rattle.book_checks.proofs.claims.place_number.Statement.{statement}
 use Rattle.book_checks.proofs.claims.place_number.Tie as tie
 use Rattle.book_checks.proofs.claims.place_number.Reads as reads

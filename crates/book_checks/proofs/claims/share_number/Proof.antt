@@ -8,7 +8,7 @@ use Rattle.lists.specs.Ranges.{OneTo}
 use Rattle.book.specs.Shares.{finished, lapsed}
 use Rattle.book.specs.Calls.{held}
 use Rattle.book_checks.specs.Claims.{share-number}
-use Rattle.book.proofs.SoundBook.{sound-facts}
+use Rattle.book.proofs.ValidBook.{valid-facts}
 use Rattle.book_checks.proofs.claims.share_number.Statement.{statement}
 use Rattle.book_checks.proofs.claims.share_number.Tie as tie
 use Rattle.book_checks.proofs.claims.share_number.Reads as reads
@@ -24,7 +24,7 @@ abbrev lent : tie.Start → Book
 lent c = bookWith (c .args .h) (now (c .args .nexts)) (now (c .args .tickets)) (now (c .args .expiries))
 
 one-of-32 : (c : tie.Start) → OneTo 32 (c .args .share)
-one-of-32 c = let S = sound-facts (lent c) (c .pre .0) in let k = S .shares-in in let e = c .pre .1 in omega arith
+one-of-32 c = let S = valid-facts (lent c) (c .pre .0) in let k = S .shares-in in let e = c .pre .1 in omega arith
 
 entry-requires : tie.Need-entry-requires
 entry-requires c κs = let s = c .before .before .before in (one-of-32 s, s .pre .2 .1)
@@ -41,7 +41,7 @@ entry-requires-3 c κs = let s = c .before .before .before .before .before .befo
 past-requires : tie.Need-past-requires
 past-requires c κs =
     let s = c .before .before .before .before .before .before .before in
-    let S = sound-facts (lent s) (s .pre .0) in
+    let S = valid-facts (lent s) (s .pre .0) in
     (S .size-in, S .shares-in, one-of-32 s)
 
 unless-requires : tie.Need-unless-requires

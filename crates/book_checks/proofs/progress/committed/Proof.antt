@@ -8,7 +8,7 @@ use Rattle.book.specs.declared.types.Book.{Book}
 use Rattle.book_entries.specs.Entries.{bookWith}
 use Rattle.book.specs.Shares as shares
 use Rattle.book.specs.Shares.{first, last, next, done, committed}
-use Rattle.book.proofs.SoundBook.{SoundBook, sound-facts}
+use Rattle.book.proofs.ValidBook.{ValidBook, valid-facts}
 use Rattle.book.proofs.Counts.{last-small}
 use Rattle.book_checks.proofs.progress.committed.Statement.{statement}
 use Rattle.book_checks.proofs.progress.committed.Tie as tie
@@ -28,7 +28,7 @@ record Step (b : Book) (i sum before : ℕ) : Type 0 where
   less : i < 32
   counted : Counted b (i + 1) (sum + (next b (suc i) - (before + 1)))
 
-step : (b : Book) (i sum before : ℕ) → SoundBook b → i < b .shares → before ≡ last (b .size) (b .shares) i → Counted b i sum → Step b i sum before
+step : (b : Book) (i sum before : ℕ) → ValidBook b → i < b .shares → before ≡ last (b .size) (b .shares) i → Counted b i sum → Step b i sum before
 unfolding first done
 step b i sum before S h e C =
     let s = S .share (suc i) (omega arith) in
@@ -62,22 +62,22 @@ next-step : (c : tie.After-last-of Inv-loop μ-loop) → Step (lent (c .before .
 next-step c =
     let a = c .before .before .before .before .before .before .before .before .before in
     let l = c .before .before .before .before .loop in
-    step (lent a) (l .i) (l .sum) (c .last-of .result) (sound-facts (lent a) (a .pre .0)) (c .before .before .if1 .taken) (c .last-of .ensures .0 (a .args .h .size) (c .before .before .before .before .before .count-of .ensures .0)) (l .inv .1)
+    step (lent a) (l .i) (l .sum) (c .last-of .result) (valid-facts (lent a) (a .pre .0)) (c .before .before .if1 .taken) (c .last-of .ensures .0 (a .args .h .size) (c .before .before .before .before .before .count-of .ensures .0)) (l .inv .1)
 
 count-of-requires : tie.Need-count-of-requires Inv-loop μ-loop
-count-of-requires c κs = let s = c .before .before .before in sound-facts (lent s) (s .pre .0) .size-in
+count-of-requires c κs = let s = c .before .before .before in valid-facts (lent s) (s .pre .0) .size-in
 
 loop-holds : tie.Need-loop-holds Inv-loop μ-loop
 loop-holds c = (omega arith, record { is = refl; small = omega arith })
 
 mul-sum : tie.Need-mul-sum Inv-loop μ-loop
-mul-sum c = let s = c .before .before .before .before .before .before .before in let S = sound-facts (lent s) (s .pre .0) in omega arith
+mul-sum c = let s = c .before .before .before .before .before .before .before in let S = valid-facts (lent s) (s .pre .0) in omega arith
 
 shared-slice-read-sum : tie.Need-shared-slice-read-sum Inv-loop μ-loop
-shared-slice-read-sum c = let s = c .before .before .before .before .before .before .before .before in let S = sound-facts (lent s) (s .pre .0) in omega (arith, s .pre .1 .0)
+shared-slice-read-sum c = let s = c .before .before .before .before .before .before .before .before in let S = valid-facts (lent s) (s .pre .0) in omega (arith, s .pre .1 .0)
 
 last-of-requires : tie.Need-last-of-requires Inv-loop μ-loop
-last-of-requires c κs = let s = c .before .before .before .before .before .before .before .before in let S = sound-facts (lent s) (s .pre .0) in (c .before .before .before .before .count-of .ensures .1, S .shares-in, omega arith)
+last-of-requires c κs = let s = c .before .before .before .before .before .before .before .before in let S = valid-facts (lent s) (s .pre .0) in (c .before .before .before .before .count-of .ensures .1, S .shares-in, omega arith)
 
 add-sum : tie.Need-add-sum Inv-loop μ-loop
 add-sum c = omega arith

@@ -11,7 +11,7 @@ use Rattle.book.specs.declared.types.Book.{Book}
 use Rattle.book_entries.specs.Entries.{bookWith}
 use Rattle.book.specs.Shares.{last, next, finished, complete}
 use Rattle.book.proofs.Entries.{every-false}
-use Rattle.book.proofs.SoundBook.{sound-facts}
+use Rattle.book.proofs.ValidBook.{valid-facts}
 use Rattle.book_checks.proofs.progress.complete.Statement.{statement}
 use Rattle.book_checks.proofs.progress.complete.Tie as tie
 use Rattle.book_checks.proofs.progress.complete.Reads as reads
@@ -43,22 +43,22 @@ abbrev lent : tie.Start Inv-loop μ-loop → Book
 lent c = bookWith (c .args .h) (now (c .args .nexts)) (now (c .args .tickets)) (now (c .args .expiries))
 
 count-of-requires : tie.Need-count-of-requires Inv-loop μ-loop
-count-of-requires c κs = let s = c .before .before .before in sound-facts (lent s) (s .pre .0) .size-in
+count-of-requires c κs = let s = c .before .before .before in valid-facts (lent s) (s .pre .0) .size-in
 
 loop-holds : tie.Need-loop-holds Inv-loop μ-loop
 loop-holds c = (omega arith, refl)
 
 mul-if2 : tie.Need-mul-if2 Inv-loop μ-loop
-mul-if2 c = let s = c .before .before .before .before .before .before .before in let S = sound-facts (lent s) (s .pre .0) in omega arith
+mul-if2 c = let s = c .before .before .before .before .before .before .before in let S = valid-facts (lent s) (s .pre .0) in omega arith
 
 shared-slice-read-if2 : tie.Need-shared-slice-read-if2 Inv-loop μ-loop
-shared-slice-read-if2 c = let s = c .before .before .before .before .before .before .before .before in let S = sound-facts (lent s) (s .pre .0) in omega (arith, s .pre .1 .0)
+shared-slice-read-if2 c = let s = c .before .before .before .before .before .before .before .before in let S = valid-facts (lent s) (s .pre .0) in omega (arith, s .pre .1 .0)
 
 add-last-of : tie.Need-add-last-of Inv-loop μ-loop
 add-last-of c = omega arith
 
 last-of-requires : tie.Need-last-of-requires Inv-loop μ-loop
-last-of-requires c κs = let s = c .before .before .before .before .before .before .before .before in let S = sound-facts (lent s) (s .pre .0) in (c .before .before .before .before .count-of .ensures .1, S .shares-in, omega arith)
+last-of-requires c κs = let s = c .before .before .before .before .before .before .before .before in let S = valid-facts (lent s) (s .pre .0) in (c .before .before .before .before .count-of .ensures .1, S .shares-in, omega arith)
 
 -- where share i + 1 ends
 end : (c : tie.After-last-of Inv-loop μ-loop) → c .last-of .result ≡ last (c .before .before .before .before .before .before .before .before .before .args .h .size) (c .before .before .before .before .before .before .before .before .before .args .h .shares) (c .before .before .before .before .loop .i + 1)

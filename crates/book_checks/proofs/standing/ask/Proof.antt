@@ -13,25 +13,25 @@ use denote.Ref.{now}
 use Rattle.book.specs.declared.types.Book.{Book}
 use Rattle.book_entries.specs.Entries.{bookWith}
 use Rattle.book.specs.Shares.{expiry, holder, lapsed}
-use Rattle.book.specs.Sound.{both, sound}
+use Rattle.book.specs.Valid.{both, valid}
 use Rattle.book.specs.Calls.{tick-in, ticket-number}
-use Rattle.book.proofs.SoundBook.{sound-facts}
+use Rattle.book.proofs.ValidBook.{valid-facts}
 use Rattle.book.proofs.Accepted.{holder-stands}
 use Rattle.book_checks.proofs.standing.ask.Statement.{statement}
 use Rattle.book_checks.proofs.standing.ask.Tie as tie
 use Rattle.book_checks.proofs.standing.ask.Reads as reads
 use Rattle.book_checks.proofs.standing.ask.Lts as lts
 use Rattle.book_shares.proofs.entry.Reads as entry-reads
-use Rattle.book_validity.proofs.sound.Reads as sound-reads
+use Rattle.book_validity.proofs.valid.Reads as valid-reads
 use Rattle.book_checks.proofs.standing.holder.Reads as holder-reads
 use Rattle.book_checks.proofs.standing.tick_in.Reads as tick-in-reads
 
 module _ (b : Book) (tick t : ℕ) where
-  unsound : sound b ≡ false → (rest : ℕ) → ticket-number b tick t rest ≡ 50
+  invalid : valid b ≡ false → (rest : ℕ) → ticket-number b tick t rest ≡ 50
   unfolding ticket-number
-  unsound s rest = rw s
+  invalid s rest = rw s
 
-  module _ (s : sound b ≡ true) where
+  module _ (s : valid b ≡ true) where
     untimely : both (leb (b .latest) tick) (ltb tick (2 ^ 48)) ≡ false → (rest : ℕ) → ticket-number b tick t rest ≡ 52
     unfolding ticket-number tick-in
     untimely e rest = rw (s, e)
@@ -53,8 +53,8 @@ module _ (b : Book) (tick t : ℕ) where
 abbrev lent : tie.Start → Book
 lent c = bookWith (c .args .h) (now (c .args .nexts)) (now (c .args .tickets)) (now (c .args .expiries))
 
-is-sound : (c : tie.Else1) → sound (lent (c .before .before .before .before .before)) ≡ true
-is-sound c = sym (c .before .sound .ensures) ∙ not-false _ (c .if1 .left)
+is-valid : (c : tie.Else1) → valid (lent (c .before .before .before .before .before)) ≡ true
+is-valid c = sym (c .before .valid .ensures) ∙ not-false _ (c .if1 .left)
 
 in-time : (c : tie.Else2) → both (leb (c .before .before .before .before .before .before .before .args .h .latest) (c .before .before .before .before .before .before .before .args .tick)) (ltb (c .before .before .before .before .before .before .before .args .tick) (2 ^ 48)) ≡ true
 in-time c = sym (c .before .tick-in .ensures) ∙ not-false _ (c .if2 .left)
@@ -69,14 +69,14 @@ held : (c : tie.Else3) → OneTo 32 (c .before .holder .result)
 held c =
     let s = c .before .before .before .before .before .before .before .before .before in
     let q = holder-stands (lent s) (s .args .ticket) (somewhere c) .share-in in
-    let k = sound-facts (lent s) (is-sound (c .before .before .before .before)) .shares-in in
+    let k = valid-facts (lent s) (is-valid (c .before .before .before .before)) .shares-in in
     rw (share-is (c .before)) (omega arith)
 
-sound-requires : tie.Need-sound-requires
-sound-requires c κs = search needs
+valid-requires : tie.Need-valid-requires
+valid-requires c κs = search needs
 
 returns : tie.Need-returns
-returns c = let s = c .before .before .before .before .before in (λ z. omega arith, unsound (lent s) (s .args .tick) (s .args .ticket) (sym (c .before .sound .ensures) ∙ not-true _ (c .if1 .taken)))
+returns c = let s = c .before .before .before .before .before in (λ z. omega arith, invalid (lent s) (s .args .tick) (s .args .ticket) (sym (c .before .valid .ensures) ∙ not-true _ (c .if1 .taken)))
 
 tick-in-requires : tie.Need-tick-in-requires
 tick-in-requires c κs = search needs
@@ -84,15 +84,15 @@ tick-in-requires c κs = search needs
 returns-2 : tie.Need-returns-2
 returns-2 c =
     let s = c .before .before .before .before .before .before .before in
-    (λ z. omega arith, untimely (lent s) (s .args .tick) (s .args .ticket) (is-sound (c .before .before)) (sym (c .before .tick-in .ensures) ∙ not-true _ (c .if2 .taken)))
+    (λ z. omega arith, untimely (lent s) (s .args .tick) (s .args .ticket) (is-valid (c .before .before)) (sym (c .before .tick-in .ensures) ∙ not-true _ (c .if2 .taken)))
 
 holder-requires : tie.Need-holder-requires
-holder-requires c κs = (sound-facts (lent (c .before .before .before .before .before .before .before)) (is-sound (c .before .before)) .shares-in .1, c .before .before .before .before .before .before .before .pre .1)
+holder-requires c κs = (valid-facts (lent (c .before .before .before .before .before .before .before)) (is-valid (c .before .before)) .shares-in .1, c .before .before .before .before .before .before .before .pre .1)
 
 returns-3 : tie.Need-returns-3
 returns-3 c =
     let s = c .before .before .before .before .before .before .before .before .before in
-    (λ z. omega arith, nowhere (lent s) (s .args .tick) (s .args .ticket) (is-sound (c .before .before .before .before)) (in-time (c .before .before)) (sym (share-is (c .before)) ∙ c .if3 .taken))
+    (λ z. omega arith, nowhere (lent s) (s .args .tick) (s .args .ticket) (is-valid (c .before .before .before .before)) (in-time (c .before .before)) (sym (share-is (c .before)) ∙ c .if3 .taken))
 
 entry-requires : tie.Need-entry-requires
 entry-requires c κs = (held c, c .before .before .before .before .before .before .before .before .before .pre .2)
@@ -100,18 +100,18 @@ entry-requires c κs = (held c, c .before .before .before .before .before .befor
 returns-4 : tie.Need-returns-4
 returns-4 c =
     let s = c .before .before .before .before .before .before .before .before .before .before .before in
-    (λ z. omega arith, gone (lent s) (s .args .tick) (s .args .ticket) (is-sound (c .before .before .before .before .before .before)) (in-time (c .before .before .before .before)) (somewhere (c .before .before)) (rw (c .before .entry .ensures, share-is (c .before .before .before)) at (c .if4 .taken)))
+    (λ z. omega arith, gone (lent s) (s .args .tick) (s .args .ticket) (is-valid (c .before .before .before .before .before .before)) (in-time (c .before .before .before .before)) (somewhere (c .before .before)) (rw (c .before .entry .ensures, share-is (c .before .before .before)) at (c .if4 .taken)))
 
 returns-5 : tie.Need-returns-5
 returns-5 c =
     let s = c .before .before .before .before .before .before .before .before .before .before .before in
-    (share-is (c .before .before .before), stands (lent s) (s .args .tick) (s .args .ticket) (is-sound (c .before .before .before .before .before .before)) (in-time (c .before .before .before .before)) (somewhere (c .before .before)) (rw (c .before .entry .ensures, share-is (c .before .before .before)) at (c .if4 .left)))
+    (share-is (c .before .before .before), stands (lent s) (s .args .tick) (s .args .ticket) (is-valid (c .before .before .before .before .before .before)) (in-time (c .before .before .before .before)) (somewhere (c .before .before)) (rw (c .before .entry .ensures, share-is (c .before .before .before)) at (c .if4 .left)))
 
 pub ask-spec : {M : Type 1} → statement M
 ask-spec =
     tie.close
     (tie.spec
-    sound-requires
+    valid-requires
     returns
     tick-in-requires
     returns-2

@@ -1,4 +1,4 @@
--- `entries_sound` meets its contract: the loop's invariant: the entries before place i are sound, and the ends of the shares so far are those of a division of j times the count by k.
+-- `entries_valid` meets its contract: the loop's invariant: the entries before place i are valid, and the ends of the shares so far are those of a division of j times the count by k.
 use borrow.Author.Needs.{needs}
 use mathlib.Core.Path.{_≡_, refl, sym, _∙_}
 use mathlib.Core.Bool.{true, false}
@@ -9,29 +9,29 @@ use denote.Ref.{now}
 use borrow.Author.Tests.{not-true, not-false}
 use Rattle.lists.specs.Ranges.{every}
 use Rattle.book.specs.declared.types.Book.{Book}
-use Rattle.book.specs.Sound.{entries-sound}
-use Rattle.book_entries.specs.Entries.{bookWith, entry-sound}
+use Rattle.book.specs.Valid.{entries-valid}
+use Rattle.book_entries.specs.Entries.{bookWith, entry-valid}
 use Rattle.book.proofs.Entries.{every-false}
 use Rattle.book_validity.proofs.Ends.{ended, end-small, end-more, shared, part-small, step-small}
 use Rattle.book.specs.Shares.{last}
-use Rattle.book_validity.proofs.entries_sound.Statement.{statement}
-use Rattle.book_validity.proofs.entries_sound.Tie as tie
-use Rattle.book_validity.proofs.entries_sound.Reads as reads
-use Rattle.book_validity.proofs.entries_sound.Lts as lts
-use Rattle.book_entries.proofs.entry_sound.Reads as entry-sound-reads
+use Rattle.book_validity.proofs.entries_valid.Statement.{statement}
+use Rattle.book_validity.proofs.entries_valid.Tie as tie
+use Rattle.book_validity.proofs.entries_valid.Reads as reads
+use Rattle.book_validity.proofs.entries_valid.Lts as lts
+use Rattle.book_entries.proofs.entry_valid.Reads as entry-valid-reads
 use Rattle.book_shares.proofs.onward.Reads as onward-reads
 
-entries-false : (b : Book) (i : ℕ) → i < 32 → entry-sound b (suc i) ≡ false → entries-sound b ≡ false
-unfolding entries-sound
-entries-false b i h e = every-false 32 (entry-sound b) (suc i) (omega arith) e
+entries-false : (b : Book) (i : ℕ) → i < 32 → entry-valid b (suc i) ≡ false → entries-valid b ≡ false
+unfolding entries-valid
+entries-false b i h e = every-false 32 (entry-valid b) (suc i) (omega arith) e
 
-entries-true : (b : Book) (i : ℕ) → 32 ≤ i → i ≤ 32 → every i (entry-sound b) ≡ true → entries-sound b ≡ true
-unfolding entries-sound
+entries-true : (b : Book) (i : ℕ) → 32 ≤ i → i ≤ 32 → every i (entry-valid b) ≡ true → entries-valid b ≡ true
+unfolding entries-valid
 entries-true b i l u h = let e : i ≡ 32 = omega arith in rw e at h
 
--- the shares so far are sound, and end where they should
+-- the shares so far are valid, and end where they should
 abbrev Inv-loop : tie.InvT-loop
-Inv-loop h total next ticket expiry k step part before₀ rest₀ i₀ before rest i = (i ≤ 32) × (every i (entry-sound (bookWith h next ticket expiry)) ≡ true) × (rest < k) × (before * k + rest ≡ i * total)
+Inv-loop h total next ticket expiry k step part before₀ rest₀ i₀ before rest i = (i ≤ 32) × (every i (entry-valid (bookWith h next ticket expiry)) ≡ true) × (rest < k) × (before * k + rest ≡ i * total)
 
 abbrev μ-loop : tie.MeasureT-loop
 μ-loop h total next ticket expiry k step part before₀ rest₀ i₀ before rest i = 32 - i
@@ -69,8 +69,8 @@ starts c = ended _ _ _ _ (c .before .before .loop .rest) (start c .args .total) 
 stops : (c : tie.After-onward Inv-loop μ-loop) → c .onward .result .last ≡ last (start c .args .h .size) (start c .args .h .shares) (c .before .before .loop .i + 1)
 stops c = ended _ _ _ _ (c .onward .result .rest) (start c .args .total) (start c .pre .0) (further c) (c .onward .ensures .0)
 
-entry-sound-requires : tie.Need-entry-sound-requires Inv-loop μ-loop
-entry-sound-requires c κs =
+entry-valid-requires : tie.Need-entry-valid-requires Inv-loop μ-loop
+entry-valid-requires c κs =
     let a = start c in
     let v = c .before .before .loop .inv in
     let l = c .before .loop-test .taken in (
@@ -84,7 +84,7 @@ entry-sound-requires c κs =
 returns : tie.Need-returns Inv-loop μ-loop
 returns c =
     let o = c .before .before in
-    sym (entries-false (lent (start o)) (o .before .before .loop .i) (o .before .loop-test .taken) (sym (c .before .entry-sound .ensures (start o .args .h .size) (starts o) (stops o)) ∙ not-true _ (c .if1 .taken)))
+    sym (entries-false (lent (start o)) (o .before .before .loop .i) (o .before .loop-test .taken) (sym (c .before .entry-valid .ensures (start o .args .h .size) (starts o) (stops o)) ∙ not-true _ (c .if1 .taken)))
 
 add-i : tie.Need-add-i Inv-loop μ-loop
 add-i c = omega arith
@@ -96,7 +96,7 @@ loop-again : tie.Need-loop-again Inv-loop μ-loop
 loop-again c =
     let o = c .before .before in (
       omega (arith, o .before .loop-test .taken),
-      rw (add-one, sym (c .before .entry-sound .ensures (start o .args .h .size) (starts o) (stops o)) ∙ not-false _ (c .if1 .left)) (o .before .before .loop .inv .1),
+      rw (add-one, sym (c .before .entry-valid .ensures (start o .args .h .size) (starts o) (stops o)) ∙ not-false _ (c .if1 .left)) (o .before .before .loop .inv .1),
       o .onward .ensures .0,
       further o,
     )
@@ -104,8 +104,8 @@ loop-again c =
 returns-2 : tie.Need-returns-2 Inv-loop μ-loop
 returns-2 c = sym (entries-true (lent (c .before .before .before .before .before)) (c .before .loop .i) (c .loop-test .left) (c .before .loop .inv .0) (c .before .loop .inv .1))
 
-pub entries-sound-spec : {M : Type 1} → statement M
-entries-sound-spec =
+pub entries-valid-spec : {M : Type 1} → statement M
+entries-valid-spec =
     tie.close
     (tie.spec
     Inv-loop
@@ -114,7 +114,7 @@ entries-sound-spec =
     rem-part
     loop-holds
     onward-requires
-    entry-sound-requires
+    entry-valid-requires
     returns
     add-i
     loop-less

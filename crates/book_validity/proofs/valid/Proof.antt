@@ -1,4 +1,4 @@
--- `sound` meets its contract: the numbers are tested before the entries, whose ends they keep small.
+-- `valid` meets its contract: the numbers are tested before the entries, whose ends they keep small.
 use borrow.Author.Needs.{needs}
 use mathlib.Core.Path.{_≡_, sym, _∙_}
 use mathlib.Core.Bool.{Bool, true}
@@ -8,17 +8,17 @@ use denote.Ref.{now}
 use Rattle.lists.specs.Ranges.{OneTo}
 use Rattle.lists.proofs.Tests.{both-true, ltb-true}
 use Rattle.book.specs.declared.types.Book.{Book}
-use Rattle.book.specs.Sound.{both, among, in-range, counters-in, entries-sound, sound}
+use Rattle.book.specs.Valid.{both, among, in-range, counters-in, entries-valid, valid}
 use Rattle.book_entries.specs.Entries.{bookWith}
-use Rattle.book.proofs.SoundBook.{among-true}
+use Rattle.book.proofs.ValidBook.{among-true}
 use Rattle.book.proofs.Entries.{both-both}
-use Rattle.book_validity.proofs.sound.Statement.{statement}
-use Rattle.book_validity.proofs.sound.Tie as tie
-use Rattle.book_validity.proofs.sound.Reads as reads
-use Rattle.book_validity.proofs.sound.Lts as lts
+use Rattle.book_validity.proofs.valid.Statement.{statement}
+use Rattle.book_validity.proofs.valid.Tie as tie
+use Rattle.book_validity.proofs.valid.Reads as reads
+use Rattle.book_validity.proofs.valid.Lts as lts
 use Rattle.book_shares.proofs.count_of.Reads as count-of-reads
 use Rattle.book_validity.proofs.counters_in.Reads as counters-in-reads
-use Rattle.book_validity.proofs.entries_sound.Reads as entries-sound-reads
+use Rattle.book_validity.proofs.entries_valid.Reads as entries-valid-reads
 use Rattle.book_shares.proofs.tests.among.Reads as among-reads
 use Rattle.book_shares.proofs.tests.both.Reads as both-reads
 
@@ -26,9 +26,9 @@ use Rattle.book_shares.proofs.tests.both.Reads as both-reads
 abbrev numbers : Book → Bool
 numbers b = both (both (among 50 (b .size)) (among 32 (b .shares))) (both (leb (b .issued) 65535) (ltb (b .latest) (2 ^ 48)))
 
-sound-tests : (b : Book) → sound b ≡ both (numbers b) (entries-sound b)
-unfolding sound in-range counters-in
-sound-tests b = both-both (both (among 50 (b .size)) (among 32 (b .shares))) (both (leb (b .issued) 65535) (ltb (b .latest) (2 ^ 48))) (entries-sound b)
+valid-tests : (b : Book) → valid b ≡ both (numbers b) (entries-valid b)
+unfolding valid in-range counters-in
+valid-tests b = both-both (both (among 50 (b .size)) (among 32 (b .shares))) (both (leb (b .issued) 65535) (ltb (b .latest) (2 ^ 48))) (entries-valid b)
 
 record Grounds (b : Book) : Type 0 where
   size-in : OneTo 50 (b .size)
@@ -67,8 +67,8 @@ both-requires-2 c κs = search needs
 count-of-requires : tie.Need-count-of-requires
 count-of-requires c κs = grounds (lent (c .before .before .before .before .before .before .before .before .before)) (sym (ranged (c .before)) ∙ c .if1 .taken) .size-in
 
-entries-sound-requires : tie.Need-entries-sound-requires
-entries-sound-requires c κs =
+entries-valid-requires : tie.Need-entries-valid-requires
+entries-valid-requires c κs =
     let g = c .before .before in
     let o = g .before .before .before .before .before .before .before .before in
     let s = grounds (lent o) (sym (ranged g) ∙ c .before .if1 .taken) in
@@ -77,13 +77,13 @@ entries-sound-requires c κs =
 returns : tie.Need-returns
 returns c =
     let g = c .before .before .before in
-    rw (c .entries-sound .ensures, sound-tests, sym (ranged g) ∙ c .before .before .if1 .taken)
+    rw (c .entries-valid .ensures, valid-tests, sym (ranged g) ∙ c .before .before .if1 .taken)
 
 returns-2 : tie.Need-returns-2
-returns-2 c = rw (sound-tests, sym (ranged (c .before)) ∙ c .if1 .left)
+returns-2 c = rw (valid-tests, sym (ranged (c .before)) ∙ c .if1 .left)
 
-pub sound-spec : {M : Type 1} → statement M
-sound-spec =
+pub valid-spec : {M : Type 1} → statement M
+valid-spec =
     tie.close
     (tie.spec
     among-requires
@@ -92,6 +92,6 @@ sound-spec =
     counters-in-requires
     both-requires-2
     count-of-requires
-    entries-sound-requires
+    entries-valid-requires
     returns
     returns-2)

@@ -1,4 +1,4 @@
--- The test `sound` as facts, and that the entries an operation writes keep a book valid.
+-- The test `valid` as facts, and that the entries an operation writes keep a book valid.
 use mathlib.Core.Path.{_≡_, refl, sym, ap, _∙_, subst}
 use mathlib.Core.Logic.{_≢_, _⊎_, inl, inr, ⊎-elim}
 use mathlib.Core.Bool.{Bool, true, false, true≢false, cond}
@@ -14,11 +14,11 @@ use Rattle.lists.proofs.Lists.{at-put-same, at-put-other, length-put}
 use Rattle.lists.proofs.Ranges.{every-true, true-every}
 use Rattle.book.specs.declared.types.Book.{Book}
 use Rattle.book.specs.Shares.{first, last, next, ticket, expiry, finished}
-use Rattle.book.specs.Sound.{both, either, among, in-range, next-in, finished-free, ticket-once, ticket-issued, expiry-in, share-sound, entry-unused, entries-sound, counters-in, sound}
+use Rattle.book.specs.Valid.{both, either, among, in-range, next-in, finished-free, ticket-once, ticket-issued, expiry-in, share-valid, entry-unused, entries-valid, counters-in, valid}
 use Rattle.book.specs.Calls.{entered, ticked}
 
 -- what is valid at share j
-pub record ShareSound (b : Book) (j : ℕ) : Type 0 where
+pub record ShareValid (b : Book) (j : ℕ) : Type 0 where
   pub from : first (b .size) (b .shares) j ≤ next b j
   pub to : next b j ≤ suc (last (b .size) (b .shares) j)
   pub free : last (b .size) (b .shares) j < next b j → ticket b j ≡ 0
@@ -32,12 +32,12 @@ pub record Unused (b : Book) (j : ℕ) : Type 0 where
   pub no-ticket : ticket b j ≡ 0
   pub no-expiry : expiry b j ≡ 0
 
-pub record SoundBook (b : Book) : Type 0 where
+pub record ValidBook (b : Book) : Type 0 where
   pub size-in : OneTo 50 (b .size)
   pub shares-in : OneTo 32 (b .shares)
   pub issued-in : b .issued ≤ 65535
   pub latest-in : b .latest < 2 ^ 48
-  pub share : (j : ℕ) → OneTo (b .shares) j → ShareSound b j
+  pub share : (j : ℕ) → OneTo (b .shares) j → ShareValid b j
   pub unused : (j : ℕ) → OneTo 32 j → b .shares < j → Unused b j
 
 -- ---- from the test to the facts
@@ -61,8 +61,8 @@ not-true true e = absurd (true≢false (sym e))
 not-true false e = refl
 
 module _ (b : Book) where
-  share-facts : (j : ℕ) → share-sound b j ≡ true → ShareSound b j
-  unfolding share-sound next-in finished-free ticket-once ticket-issued expiry-in finished
+  share-facts : (j : ℕ) → share-valid b j ≡ true → ShareValid b j
+  unfolding share-valid next-in finished-free ticket-once ticket-issued expiry-in finished
   share-facts j e = record { from = leb-true _ _ (p .0); to = leb-true _ _ (p .1); free = free; once = once; issued = leb-true _ _ (q3 .0); without = without; soon = leb-true _ _ (x .1) }
     where
       q1 : (next-in b j ≡ true) × (both (finished-free b j) (both (ticket-once b j) (both (ticket-issued b j) (expiry-in b j))) ≡ true)
@@ -100,8 +100,8 @@ module _ (b : Book) where
           go (inl z) = eqb-true _ _ z
           go (inr z) = absurd (eqb-false _ _ (not-true _ z) t)
 
-  facts-share : (j : ℕ) → ShareSound b j → share-sound b j ≡ true
-  unfolding share-sound next-in finished-free ticket-once ticket-issued expiry-in finished
+  facts-share : (j : ℕ) → ShareValid b j → share-valid b j ≡ true
+  unfolding share-valid next-in finished-free ticket-once ticket-issued expiry-in finished
   facts-share j S = both-of _ _ (both-of _ _ (le-true _ _ (S .from)) (le-true _ _ (S .to))) (both-of _ _ free (both-of _ _ once (both-of _ _ (le-true _ _ (S .issued)) (both-of _ _ without (le-true _ _ (S .soon))))))
     where
       free : cond (ltb (last (b .size) (b .shares) j) (next b j)) (eqb (ticket b j) 0) true ≡ true
@@ -136,9 +136,9 @@ module _ (b : Book) where
       let q = both-true (eqb (ticket b j) 0) _ (p .1) in
       record { no-next = eqb-true _ _ (p .0); no-ticket = eqb-true _ _ (q .0); no-expiry = eqb-true _ _ (q .1) }
 
-  pub sound-facts : sound b ≡ true → SoundBook b
-  unfolding sound in-range counters-in entries-sound
-  sound-facts e =
+  pub valid-facts : valid b ≡ true → ValidBook b
+  unfolding valid in-range counters-in entries-valid
+  valid-facts e =
       let p = both-true (in-range b) _ e in
       let q = both-true (counters-in b) _ (p .1) in
       let r = both-true (among 50 (b .size)) _ (p .0) in
@@ -153,19 +153,19 @@ module _ (b : Book) where
       }
     where
       test : ℕ → Bool
-      test j = cond (leb j (b .shares)) (share-sound b j) (entry-unused b j)
+      test j = cond (leb j (b .shares)) (share-valid b j) (entry-unused b j)
 
-  pub facts-sound : SoundBook b → sound b ≡ true
-  unfolding sound in-range counters-in entries-sound
-  facts-sound S = both-of _ _ (both-of _ _ (true-among 50 _ (S .size-in)) (true-among 32 _ (S .shares-in))) (both-of _ _ (both-of _ _ (le-true _ _ (S .issued-in)) (lt-true _ _ (S .latest-in))) (true-every 32 _ at-entry))
+  pub facts-valid : ValidBook b → valid b ≡ true
+  unfolding valid in-range counters-in entries-valid
+  facts-valid S = both-of _ _ (both-of _ _ (true-among 50 _ (S .size-in)) (true-among 32 _ (S .shares-in))) (both-of _ _ (both-of _ _ (le-true _ _ (S .issued-in)) (lt-true _ _ (S .latest-in))) (true-every 32 _ at-entry))
     where
-      at-entry : (j : ℕ) → OneTo 32 j → cond (leb j (b .shares)) (share-sound b j) (entry-unused b j) ≡ true
+      at-entry : (j : ℕ) → OneTo 32 j → cond (leb j (b .shares)) (share-valid b j) (entry-unused b j) ≡ true
       at-entry j e = go (lt? (b .shares) j)
         where
           empty : Unused b j → entry-unused b j ≡ true
           empty u = unfold entry-unused in (both-of _ _ (eqb-eq _ _ (u .no-next)) (both-of _ _ (eqb-eq _ _ (u .no-ticket)) (eqb-eq _ _ (u .no-expiry))))
 
-          go : (b .shares < j) ⊎ (j ≤ b .shares) → cond (leb j (b .shares)) (share-sound b j) (entry-unused b j) ≡ true
+          go : (b .shares < j) ⊎ (j ≤ b .shares) → cond (leb j (b .shares)) (share-valid b j) (entry-unused b j) ≡ true
           go (inl l) = rw (le-false _ _ l) (empty (S .unused j e l))
           go (inr l) = rw (le-true _ _ l) (facts-share j (S .share j (e .0, l)))
 
@@ -177,7 +177,7 @@ pub record Long (b : Book) : Type 0 where
   pub ticket-long : length (b .ticket) ≡ 32
   pub expiry-long : length (b .expiry) ≡ 32
 
--- the entries p, t, e at share j, with the tick and the tickets issued, keep the book sound
+-- the entries p, t, e at share j, with the tick and the tickets issued, keep the book valid
 pub record Fitting (b : Book) (tick issues j p t e : ℕ) : Type 0 where
   pub share-in : OneTo (b .shares) j
   pub later : b .latest ≤ tick
@@ -225,8 +225,8 @@ module _ (b : Book) (tick issues j p t e : ℕ) (L : Long b) (k : OneTo 32 j) wh
     unfolding entered
     other-expiry = at-put-other (b .expiry) j e i n
 
-  module _ (S : SoundBook b) (F : Fitting b tick issues j p t e) where
-    at-j : ShareSound b′ j
+  module _ (S : ValidBook b) (F : Fitting b tick issues j p t e) where
+    at-j : ShareValid b′ j
     unfolding entered
     at-j = record {
       from = rw entered-next (F .from);
@@ -238,7 +238,7 @@ module _ (b : Book) (tick issues j p t e : ℕ) (L : Long b) (k : OneTo 32 j) wh
       soon = rw entered-expiry (F .soon);
     }
 
-    at-other : (i : ℕ) → OneTo (b .shares) i → i ≢ j → ShareSound b′ i
+    at-other : (i : ℕ) → OneTo (b .shares) i → i ≢ j → ShareValid b′ i
     unfolding entered
     at-other i a n = record {
       from = rw (other-next i n) (s .from);
@@ -250,7 +250,7 @@ module _ (b : Book) (tick issues j p t e : ℕ) (L : Long b) (k : OneTo 32 j) wh
       soon = rw (other-expiry i n) (let x = s .soon in let y = F .later in omega arith);
     }
       where
-        s : ShareSound b i
+        s : ShareValid b i
         s = S .share i a
 
         once : (h : ℕ) → 1 ≤ h → h < i → ticket b i ≢ 0 → (h ≡ j) ⊎ (h ≢ j) → ticket b′ h ≢ ticket b′ i
@@ -264,9 +264,9 @@ module _ (b : Book) (tick issues j p t e : ℕ) (L : Long b) (k : OneTo 32 j) wh
             go (inr y) = F .new y i a n (sym eq)
         once h u v z (inr q) w = s .once h u v z (sym (other-ticket h q) ∙ w ∙ other-ticket i n)
 
-    pub entered-sound : SoundBook b′
+    pub entered-valid : ValidBook b′
     unfolding entered
-    entered-sound = record {
+    entered-valid = record {
       size-in = S .size-in;
       shares-in = S .shares-in;
       issued-in = F .issues-in;
@@ -275,7 +275,7 @@ module _ (b : Book) (tick issues j p t e : ℕ) (L : Long b) (k : OneTo 32 j) wh
       unused = λ i a l. empty i a l;
     }
       where
-        each : (i : ℕ) → OneTo (b .shares) i → (i ≡ j) ⊎ (i ≢ j) → ShareSound b′ i
+        each : (i : ℕ) → OneTo (b .shares) i → (i ≡ j) ⊎ (i ≢ j) → ShareValid b′ i
         each i a (inl q) = rw q at-j
         each i a (inr q) = at-other i a q
 
@@ -286,9 +286,9 @@ module _ (b : Book) (tick issues j p t e : ℕ) (L : Long b) (k : OneTo 32 j) wh
             let u = S .unused i a l in
             record { no-next = other-next i n ∙ u .no-next; no-ticket = other-ticket i n ∙ u .no-ticket; no-expiry = other-expiry i n ∙ u .no-expiry }
 
-pub ticked-sound : (b : Book) (tick : ℕ) → b .latest ≤ tick → tick < 2 ^ 48 → SoundBook b → SoundBook (ticked b tick)
+pub ticked-valid : (b : Book) (tick : ℕ) → b .latest ≤ tick → tick < 2 ^ 48 → ValidBook b → ValidBook (ticked b tick)
 unfolding ticked
-ticked-sound b tick l h S = record {
+ticked-valid b tick l h S = record {
   size-in = S .size-in;
   shares-in = S .shares-in;
   issued-in = S .issued-in;

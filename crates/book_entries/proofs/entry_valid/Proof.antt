@@ -1,24 +1,24 @@
--- `entry_sound` meets its contract: a share or an unused entry, as the definition tells them apart.
+-- `entry_valid` meets its contract: a share or an unused entry, as the definition tells them apart.
 use borrow.Author.Needs.{needs}
 use mathlib.Core.Path.{refl}
 use Prim.Native.Nat.{suc}
 use native.Mathlib.Omega.{arith}
 use Rattle.lists.proofs.Tests.{le-true, le-false}
-use Rattle.book.specs.Sound.{entry-unused}
-use Rattle.book_entries.proofs.entry_sound.Statement.{statement}
-use Rattle.book_entries.proofs.entry_sound.Tie as tie
-use Rattle.book_entries.proofs.entry_sound.Reads as reads
-use Rattle.book_entries.proofs.entry_sound.Lts as lts
-use Rattle.book_entries.proofs.share_sound.Reads as share-sound-reads
+use Rattle.book.specs.Valid.{entry-unused}
+use Rattle.book_entries.proofs.entry_valid.Statement.{statement}
+use Rattle.book_entries.proofs.entry_valid.Tie as tie
+use Rattle.book_entries.proofs.entry_valid.Reads as reads
+use Rattle.book_entries.proofs.entry_valid.Lts as lts
+use Rattle.book_entries.proofs.share_valid.Reads as share-valid-reads
 use Rattle.book_shares.proofs.tests.both.Reads as both-reads
 
-share-sound-requires : tie.Need-share-sound-requires
-share-sound-requires c κs = search needs
+share-valid-requires : tie.Need-share-valid-requires
+share-valid-requires c κs = search needs
 
 returns : tie.Need-returns
 returns c n p q =
     let a = c .before .before .before .before .before .args in
-    rw (le-true (suc (a .i)) (a .k) (c .before .if1 .taken)) (c .share-sound .ensures n (a .k) p q)
+    rw (le-true (suc (a .i)) (a .k) (c .before .if1 .taken)) (c .share-valid .ensures n (a .k) p q)
 
 mul-both : tie.Need-mul-both
 mul-both c = search needs
@@ -49,11 +49,11 @@ returns-2 c n p q =
     let a = c .before .before .before .before .before .before .before .before .before .args in
     rw (le-false (suc (a .i)) (a .k) (omega arith), c .both2 .ensures, c .before .both .ensures) (unfold entry-unused in refl)
 
-pub entry-sound-spec : {M : Type 1} → statement M
-entry-sound-spec =
+pub entry-valid-spec : {M : Type 1} → statement M
+entry-valid-spec =
     tie.close
     (tie.spec
-    share-sound-requires
+    share-valid-requires
     returns
     mul-both
     shared-slice-read-both

@@ -7,9 +7,9 @@
 --   ticket-once b j       share j's ticket, if it has one, stands at no share before
 --   ticket-issued b j     share j's ticket is not above those issued
 --   expiry-in b j         share j's expiry is 0 without a ticket, and at most 65,535 beyond the latest tick
---   share-sound b j       the last five of share j;  entry-unused b j, entry j of the three lists is 0
---   entries-sound b       the shares 1..k are sound, and the entries after them unused
---   sound b               all of it: the book is not refused 50
+--   share-valid b j       the last five of share j;  entry-unused b j, entry j of the three lists is 0
+--   entries-valid b       the shares 1..k are valid, and the entries after them unused
+--   valid b               all of it: the book is not refused 50
 use mathlib.Core.Bool.{Bool, true, false, cond}
 use Prim.Native.Nat.{ℕ, zero, suc, _+_, _-_, _^_}
 use lib.Dec.{eqb, leb, ltb}
@@ -54,20 +54,20 @@ unfoldable pub expiry-in : Book → ℕ → Bool
 expiry-in b j = both (either (eqb (expiry b j) 0) (cond (eqb (ticket b j) 0) false true)) (leb (expiry b j) (b .latest + 65535))
 
 -- all of these at share j
-unfoldable pub share-sound : Book → ℕ → Bool
-share-sound b j = both (next-in b j) (both (finished-free b j) (both (ticket-once b j) (both (ticket-issued b j) (expiry-in b j))))
+unfoldable pub share-valid : Book → ℕ → Bool
+share-valid b j = both (next-in b j) (both (finished-free b j) (both (ticket-once b j) (both (ticket-issued b j) (expiry-in b j))))
 
 -- entry j of the three lists is 0
 unfoldable pub entry-unused : Book → ℕ → Bool
 entry-unused b j = both (eqb (next b j) 0) (both (eqb (ticket b j) 0) (eqb (expiry b j) 0))
 
--- shares 1..k are sound, entries k + 1..32 unused
-unfoldable pub entries-sound : Book → Bool
-entries-sound b = every 32 (λ j. cond (leb j (b .shares)) (share-sound b j) (entry-unused b j))
+-- shares 1..k are valid, entries k + 1..32 unused
+unfoldable pub entries-valid : Book → Bool
+entries-valid b = every 32 (λ j. cond (leb j (b .shares)) (share-valid b j) (entry-unused b j))
 
 -- at most 65,535 tickets issued; the latest tick is below 2^48
 unfoldable pub counters-in : Book → Bool
 counters-in b = both (leb (b .issued) 65535) (ltb (b .latest) (2 ^ 48))
 
-unfoldable pub sound : Book → Bool
-sound b = both (in-range b) (both (counters-in b) (entries-sound b))
+unfoldable pub valid : Book → Bool
+valid b = both (in-range b) (both (counters-in b) (entries-valid b))
