@@ -12,8 +12,8 @@ use Rattle.book_decisions.proofs.report.Statement.{statement}
 use Rattle.book_decisions.proofs.report.Tie as tie
 use Rattle.book_decisions.proofs.report.Reads as reads
 use Rattle.book_decisions.proofs.report.Lts as lts
-use Rattle.book_checks.proofs.progress.committed.Reads as committed-reads
-use Rattle.book_checks.proofs.progress.complete.Reads as complete-reads
+use Rattle.book_progress.proofs.committed.Reads as committed-reads
+use Rattle.book_progress.proofs.complete.Reads as complete-reads
 use Rattle.book_validity.proofs.valid.Reads as valid-reads
 
 -- the book that is decided on

@@ -10,7 +10,7 @@ use Rattle.book_entries.proofs.entry_valid.Tie as tie
 use Rattle.book_entries.proofs.entry_valid.Reads as reads
 use Rattle.book_entries.proofs.entry_valid.Lts as lts
 use Rattle.book_entries.proofs.share_valid.Reads as share-valid-reads
-use Rattle.book_shares.proofs.tests.both.Reads as both-reads
+use Rattle.book_entries_conditions.proofs.unused.Reads as unused-reads
 
 share-valid-requires : tie.Need-share-valid-requires
 share-valid-requires c κs = search needs
@@ -20,34 +20,31 @@ returns c n p q =
     let a = c .before .before .before .before .before .args in
     rw (le-true (suc (a .i)) (a .k) (c .before .if1 .taken)) (c .share-valid .ensures n (a .k) p q)
 
-mul-both : tie.Need-mul-both
-mul-both c = search needs
+mul-unused : tie.Need-mul-unused
+mul-unused c = search needs
 
-shared-slice-read-both : tie.Need-shared-slice-read-both
-shared-slice-read-both c = search needs
+shared-slice-read-unused : tie.Need-shared-slice-read-unused
+shared-slice-read-unused c = search needs
 
-mul-both-2 : tie.Need-mul-both-2
-mul-both-2 c = search needs
+mul-unused-2 : tie.Need-mul-unused-2
+mul-unused-2 c = search needs
 
-shared-slice-read-both-2 : tie.Need-shared-slice-read-both-2
-shared-slice-read-both-2 c = search needs
+shared-slice-read-unused-2 : tie.Need-shared-slice-read-unused-2
+shared-slice-read-unused-2 c = search needs
 
-mul-both-3 : tie.Need-mul-both-3
-mul-both-3 c = search needs
+mul-unused-3 : tie.Need-mul-unused-3
+mul-unused-3 c = search needs
 
-shared-slice-read-both-3 : tie.Need-shared-slice-read-both-3
-shared-slice-read-both-3 c = search needs
+shared-slice-read-unused-3 : tie.Need-shared-slice-read-unused-3
+shared-slice-read-unused-3 c = search needs
 
-both-requires : tie.Need-both-requires
-both-requires c κs = search needs
-
-both-requires-2 : tie.Need-both-requires-2
-both-requires-2 c κs = search needs
+unused-requires : tie.Need-unused-requires
+unused-requires c κs = search needs
 
 returns-2 : tie.Need-returns-2
 returns-2 c n p q =
-    let a = c .before .before .before .before .before .before .before .before .before .args in
-    rw (le-false (suc (a .i)) (a .k) (omega arith), c .both2 .ensures, c .before .both .ensures) (unfold entry-unused in refl)
+    let a = c .before .before .before .before .before .before .before .before .args in
+    rw (le-false (suc (a .i)) (a .k) (omega arith), c .unused .ensures) (unfold entry-unused in refl)
 
 pub entry-valid-spec : {M : Type 1} → statement M
 entry-valid-spec =
@@ -55,12 +52,11 @@ entry-valid-spec =
     (tie.spec
     share-valid-requires
     returns
-    mul-both
-    shared-slice-read-both
-    mul-both-2
-    shared-slice-read-both-2
-    mul-both-3
-    shared-slice-read-both-3
-    both-requires
-    both-requires-2
+    mul-unused
+    shared-slice-read-unused
+    mul-unused-2
+    shared-slice-read-unused-2
+    mul-unused-3
+    shared-slice-read-unused-3
+    unused-requires
     returns-2)

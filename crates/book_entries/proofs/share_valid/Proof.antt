@@ -10,15 +10,16 @@ use denote.Ref.{now}
 use Rattle.lists.specs.Lists.{at}
 use Rattle.book.specs.Shares.{first, last, finished}
 use Rattle.book.specs.Valid.{both, next-in, finished-free, ticket-once, ticket-issued, expiry-in, share-valid}
-use Rattle.book_entries.specs.Entries.{bookOf, placed, once-before, timely}
+use Rattle.book_entries_conditions.specs.Conditions.{placed, once-before, timely}
+use Rattle.book_entries.specs.Entries.{bookOf}
 use Rattle.book.proofs.Entries.{both-both}
 use Rattle.book_entries.proofs.share_valid.Statement.{statement}
 use Rattle.book_entries.proofs.share_valid.Tie as tie
 use Rattle.book_entries.proofs.share_valid.Reads as reads
 use Rattle.book_entries.proofs.share_valid.Lts as lts
-use Rattle.book_entries.proofs.expiry_in.Reads as expiry-in-reads
-use Rattle.book_entries.proofs.place_valid.Reads as place-valid-reads
-use Rattle.book_entries.proofs.ticket_once.Reads as ticket-once-reads
+use Rattle.book_entries_conditions.proofs.expiry_in.Reads as expiry-in-reads
+use Rattle.book_entries_conditions.proofs.place_valid.Reads as place-valid-reads
+use Rattle.book_entries_conditions.proofs.ticket_once.Reads as ticket-once-reads
 use Rattle.book_shares.proofs.tests.both.Reads as both-reads
 
 -- the tests of `share-valid`, the first two as one
