@@ -2,13 +2,9 @@
 // carried out on a book by value, or on the numbers of a book in their place.
 use book::Heads;
 use book::Reporting;
-pub use book_decisions_claim::ClaimChoice;
-pub use book_decisions_claim::ReleaseChoice;
 pub use book_decisions_claim::claim;
 pub use book_decisions_claim::release;
-pub use book_decisions_commit::CommitChoice;
 pub use book_decisions_commit::commit;
-pub use book_decisions_take::TakeChoice;
 pub use book_decisions_take::take;
 use book_progress::committed;
 use book_progress::complete;

@@ -1,7 +1,9 @@
 // What a claim and a release answer and alter, found from the lent parts of a book: its heads and its three lists.
 use book::Change;
+use book::ClaimChoice;
 use book::Claiming;
 use book::Heads;
+use book::ReleaseChoice;
 use book::Releasing;
 use book_claims::claim_number;
 use book_shares::entry;
@@ -9,16 +11,6 @@ use book_standing::Asked;
 use book_standing::ask;
 ghost use Rattle.book_entries.specs.Entries.{bookWith, Full};
 ghost use Rattle.book_decisions_claim.specs.Claims.{ClaimOf, ReleaseOf};
-
-pub struct ClaimChoice {
-    pub answer: Claiming,
-    pub change: Change,
-}
-
-pub struct ReleaseChoice {
-    pub answer: Releasing,
-    pub change: Change,
-}
 
 pub fn claim<'a>(
     h: Heads,

@@ -1,5 +1,6 @@
 // What a commit answers and alters, found from the lent parts of a book: its heads and its three lists.
 use book::Change;
+use book::CommitChoice;
 use book::Committing;
 use book::Heads;
 use book_shares::entry;
@@ -16,11 +17,6 @@ ghost use Rattle.book.specs.Changes.{changed, Placed};
 ghost use Rattle.book.specs.Calls.{movedOn};
 ghost use Rattle.book_entries.specs.Entries.{bookWith, Full};
 ghost use Rattle.book_decisions_commit.specs.Commits.{CommitOf};
-
-pub struct CommitChoice {
-    pub answer: Committing,
-    pub change: Change,
-}
 
 // An entry of a share, 0 where its ticket has ended.
 fn unless_ended(ended: bool, x: u64) -> u64

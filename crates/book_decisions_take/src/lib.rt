@@ -1,6 +1,7 @@
 // What a take answers, writes and alters, found from the lent parts of a book: its heads and its three lists.
 use book::Change;
 use book::Heads;
+use book::TakeChoice;
 use book::Taking;
 use book_shares::entry;
 use book_standing::Asked;
@@ -9,11 +10,6 @@ use listing_ranking::Entry;
 ghost use Rattle.book.specs.Taken.{TakePromise};
 ghost use Rattle.book.specs.Changes.{changed, Placed};
 ghost use Rattle.book_entries.specs.Entries.{bookWith, Full};
-
-pub struct TakeChoice {
-    pub answer: Taking,
-    pub change: Change,
-}
 
 pub fn take<'a>(
     h: Heads,
