@@ -136,7 +136,7 @@ uint16_t kaldvemir_list_marked(kaldvemir_run *run, uint64_t rows, uint16_t *s0, 
                                uint16_t *words, size_t words_len, uint16_t *lengths, size_t lengths_len, uint8_t *marks, size_t marks_len,
                                uint64_t *given);
 
-/* ---- the share book. All but open refuse 50, a book that is not sound; all but open and report then 52, a tick below the latest or from 2^48
+/* ---- the share book. All but open refuse 50, a book that is not valid; all but open and report then 52, a tick below the latest or from 2^48
  * on. A refused call leaves the book as it was; an accepted one keeps its tick as the latest. */
 
 /* Open: 31; 51 shares outside 1..32. */

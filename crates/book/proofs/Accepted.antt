@@ -11,9 +11,9 @@ use Rattle.lists.specs.Ranges.{OneTo}
 use Rattle.lists.proofs.Tests.{both-true, eqb-true, eqb-false, eqb-ne, eqb-eq, leb-true, ltb-true, same?, lt?}
 use Rattle.book.specs.declared.types.Book.{Book}
 use Rattle.book.specs.Shares.{first, last, next, ticket, expiry, finished, standing, holder, lapsed}
-use Rattle.book.specs.Sound.{among, sound}
+use Rattle.book.specs.Valid.{among, valid}
 use Rattle.book.specs.Calls.{unless, not, tick-in, claim-number, ticket-number, held}
-use Rattle.book.proofs.SoundBook.{ShareSound, SoundBook, sound-facts, among-true, not-true, Fitting}
+use Rattle.book.proofs.ValidBook.{ShareValid, ValidBook, valid-facts, among-true, not-true, Fitting}
 
 -- no number: the test held, and neither was a number answered after it
 pub zero-unless : (t : Bool) (k rest : ℕ) → 0 < k → unless t k rest ≡ 0 → (t ≡ true) × (rest ≡ 0)
@@ -49,7 +49,7 @@ holder-stands b t n = go (same? t 0)
 -- ---- take, commit, release
 
 pub record TicketGood (b : Book) (tick t : ℕ) : Type 0 where
-  pub is-sound : SoundBook b
+  pub is-valid : ValidBook b
   pub later : b .latest ≤ tick
   pub tick-small : tick < 2 ^ 48
   pub stands : Stands b t (holder b t)
@@ -62,13 +62,13 @@ tick-facts b tick e = let q = both-true (leb (b .latest) tick) _ e in (leb-true 
 pub ticket-good : (b : Book) (tick t rest : ℕ) → ticket-number b tick t rest ≡ 0 → TicketGood b tick t × (rest ≡ 0)
 unfolding ticket-number lapsed
 ticket-good b tick t rest e =
-    let q = zero-unless (sound b) 50 _ (omega arith) e in
+    let q = zero-unless (valid b) 50 _ (omega arith) e in
     let r = zero-unless (tick-in b tick) 52 _ (omega arith) (q .1) in
     let s = zero-unless (not (eqb (holder b t) 0)) 58 _ (omega arith) (r .1) in
     let u = zero-unless (not (leb (expiry b (holder b t)) tick)) 59 _ (omega arith) (s .1) in
     let f = tick-facts b tick (r .0) in (
       record {
-        is-sound = sound-facts b (q .0);
+        is-valid = valid-facts b (q .0);
         later = f .0;
         tick-small = f .1;
         stands = holder-stands b t (eqb-false _ _ (not-true _ (s .0)));
@@ -78,7 +78,7 @@ ticket-good b tick t rest e =
     )
 
 -- a share with a ticket is not finished
-pub ticket-unfinished : (b : Book) (t j : ℕ) → SoundBook b → Stands b t j → next b j ≤ last (b .size) (b .shares) j
+pub ticket-unfinished : (b : Book) (t j : ℕ) → ValidBook b → Stands b t j → next b j ≤ last (b .size) (b .shares) j
 ticket-unfinished b t j S T = go (lt? (last (b .size) (b .shares) j) (next b j))
   where
     go : (last (b .size) (b .shares) j < next b j) ⊎ (next b j ≤ last (b .size) (b .shares) j) → next b j ≤ last (b .size) (b .shares) j
@@ -86,7 +86,7 @@ ticket-unfinished b t j S T = go (lt? (last (b .size) (b .shares) j) (next b j))
     go (inr l) = l
 
 -- two shares with one ticket are one share
-pub ticket-distinct : (b : Book) (t j : ℕ) → SoundBook b → Stands b t j → (i : ℕ) → OneTo (b .shares) i → i ≢ j → ticket b i ≢ t
+pub ticket-distinct : (b : Book) (t j : ℕ) → ValidBook b → Stands b t j → (i : ℕ) → OneTo (b .shares) i → i ≢ j → ticket b i ≢ t
 ticket-distinct b t j S T i e n q = go (lt? i j)
   where
     go : (i < j) ⊎ (j ≤ i) → ⊥
@@ -97,10 +97,10 @@ module _ (b : Book) (tick t : ℕ) (G : TicketGood b tick t) where
   abbrev j : ℕ
   j = holder b t
 
-  abbrev S : SoundBook b
-  S = G .is-sound
+  abbrev S : ValidBook b
+  S = G .is-valid
 
-  s : ShareSound b (holder b t)
+  s : ShareValid b (holder b t)
   s = S .share j (G .stands .share-in)
 
   -- the ticket ends, the share standing at p
@@ -140,7 +140,7 @@ module _ (b : Book) (tick t : ℕ) (G : TicketGood b tick t) where
 -- ---- claim
 
 pub record ClaimGood (b : Book) (tick j len : ℕ) : Type 0 where
-  pub is-sound : SoundBook b
+  pub is-valid : ValidBook b
   pub later : b .latest ≤ tick
   pub tick-small : tick < 2 ^ 48
   pub share-in : OneTo (b .shares) j
@@ -152,7 +152,7 @@ pub record ClaimGood (b : Book) (tick j len : ℕ) : Type 0 where
 pub claim-good : (b : Book) (tick j len : ℕ) → claim-number b tick j len ≡ 0 → ClaimGood b tick j len
 unfolding claim-number finished held lapsed
 claim-good b tick j len e =
-    let q = zero-unless (sound b) 50 _ (omega arith) e in
+    let q = zero-unless (valid b) 50 _ (omega arith) e in
     let r = zero-unless (tick-in b tick) 52 _ (omega arith) (q .1) in
     let u = zero-unless (among (b .shares) j) 53 _ (omega arith) (r .1) in
     let v = zero-unless (among 65535 len) 54 _ (omega arith) (u .1) in
@@ -161,7 +161,7 @@ claim-good b tick j len e =
     let y = zero-unless (ltb (b .issued) 65535) 57 0 (omega arith) (x .1) in
     let f = tick-facts b tick (r .0) in
     record {
-      is-sound = sound-facts b (q .0);
+      is-valid = valid-facts b (q .0);
       later = f .0;
       tick-small = f .1;
       share-in = among-true _ _ (u .0);
@@ -179,7 +179,7 @@ claim-good b tick j len e =
 -- a ticket just issued stands at no share
 pub claim-fits : (b : Book) (tick j len : ℕ) → ClaimGood b tick j len → Fitting b tick (suc (b .issued)) j (next b j) (suc (b .issued)) (tick + len)
 claim-fits b tick j len G =
-    let S = G .is-sound in
+    let S = G .is-valid in
     let s = S .share j (G .share-in) in
     record {
       share-in = G .share-in;

@@ -18,21 +18,21 @@ use Rattle.book.specs.declared.types.Committing.{Committing}
 use Rattle.book.specs.declared.types.Committing.the-variants as committing
 use Rattle.book.specs.Shares.{first, last, next, ticket, expiry, finished, holder}
 use Rattle.book.specs.Calls.{unless, entered, ticked, claim-number, claim-book, due, room, take-number, take-answer, take-book, commit-number, commit-answer, commit-book, movedOn, release-number, release-book, ticket-number}
-use Rattle.book.proofs.SoundBook.{SoundBook, Long, Fitting, entered-sound, entered-long, entered-next, other-next, ticked-sound}
+use Rattle.book.proofs.ValidBook.{ValidBook, Long, Fitting, entered-valid, entered-long, entered-next, other-next, ticked-valid}
 use Rattle.book.proofs.Accepted.{zero-unless, TicketGood, ticket-good, ticket-unfinished, freed, kept-on, ClaimGood, claim-good, claim-fits}
 use Rattle.book.proofs.Ledger.{Ledger, ledger-same, ledger-more}
 
 module _ (n k : ℕ) (b : Book) (C : List ℕ) (L : Ledger n k b C) where
   -- a share is one of 32
   in-32 : (j : ℕ) → OneTo (b .shares) j → OneTo 32 j
-  in-32 j e = let z = L .is-sound .shares-in in omega arith
+  in-32 j e = let z = L .is-valid .shares-in in omega arith
 
   -- new entries at share j that leave its next position
   ledger-entered : (tick issues j t e : ℕ) → Fitting b tick issues j (next b j) t e → Ledger n k (entered b tick issues j (next b j) t e) C
   unfolding entered
   ledger-entered tick issues j t e F =
       ledger-same n k b (entered b tick issues j (next b j) t e) C L refl refl
-      (entered-sound b tick issues j (next b j) t e (L .long) (in-32 j (F .share-in)) (L .is-sound) F)
+      (entered-valid b tick issues j (next b j) t e (L .long) (in-32 j (F .share-in)) (L .is-valid) F)
       (entered-long b tick issues j (next b j) t e (L .long) (in-32 j (F .share-in)))
       (λ i a. go i (same? i j))
     where
@@ -54,7 +54,7 @@ module _ (n k : ℕ) (b : Book) (C : List ℕ) (L : Ledger n k b C) where
   ledger-take tick t l0 l1 lw = go (same? (take-number b tick t l0 l1 lw) 0)
     where
       accepted : TicketGood b tick t → Ledger n k (ticked b tick) C
-      accepted G = unfold ticked in (ledger-same n k b (ticked b tick) C L refl refl (ticked-sound b tick (G .later) (G .tick-small) (L .is-sound)) record { next-long = L .long .next-long; ticket-long = L .long .ticket-long; expiry-long = L .long .expiry-long } (λ j e. refl))
+      accepted G = unfold ticked in (ledger-same n k b (ticked b tick) C L refl refl (ticked-valid b tick (G .later) (G .tick-small) (L .is-valid)) record { next-long = L .long .next-long; ticket-long = L .long .ticket-long; expiry-long = L .long .expiry-long } (λ j e. refl))
 
       go : (take-number b tick t l0 l1 lw ≡ 0) ⊎ (take-number b tick t l0 l1 lw ≢ 0) → Ledger n k (cond (eqb (take-number b tick t l0 l1 lw) 0) (ticked b tick) b) C
       go (inl e) = rw (eqb-eq _ _ e) (accepted (ticket-good b tick t (unless (room (b .size) l0 l1 lw) 9 0) (unfold take-number in e) .0))
@@ -67,7 +67,7 @@ module _ (n k : ℕ) (b : Book) (C : List ℕ) (L : Ledger n k b C) where
       go : (release-number b tick t ≡ 0) ⊎ (release-number b tick t ≢ 0) → Ledger n k (cond (eqb (release-number b tick t) 0) (entered b tick (b .issued) (holder b t) (next b (holder b t)) 0 0) b) C
       go (inl e) =
           let G = ticket-good b tick t 0 (unfold release-number in e) .0 in
-          let s = L .is-sound .share (holder b t) (G .stands .share-in) in
+          let s = L .is-valid .share (holder b t) (G .stands .share-in) in
           rw (eqb-eq _ _ e) (ledger-entered tick (b .issued) (holder b t) 0 0 (freed b tick t G (next b (holder b t)) (s .from) (s .to)))
       go (inr e) = rw (eqb-ne _ _ e) L
 
@@ -91,9 +91,9 @@ module _ (n k : ℕ) (b : Book) (C : List ℕ) (L : Ledger n k b C) where
       let x = suc (next b (holder b t)) in
       let i = in-32 j (F .share-in) in
       ledger-more n k b (entered b tick (b .issued) j x p e) C L refl refl
-      (entered-sound b tick (b .issued) j x p e (L .long) i (L .is-sound) F)
+      (entered-valid b tick (b .issued) j x p e (L .long) i (L .is-valid) F)
       (entered-long b tick (b .issued) j x p e (L .long) i)
-      j (F .share-in) (ticket-unfinished b t j (L .is-sound) (G .stands))
+      j (F .share-in) (ticket-unfinished b t j (L .is-valid) (G .stands))
       (entered-next b tick (b .issued) j x p e (L .long) i)
       (λ h a q. other-next b tick (b .issued) j x p e (L .long) i h q)
 
@@ -111,10 +111,10 @@ module _ (n k : ℕ) (b : Book) (C : List ℕ) (L : Ledger n k b C) where
       on = entered b tick (b .issued) (holder b t) (suc (next b (holder b t))) (at (b .ticket) (holder b t)) (at (b .expiry) (holder b t))
 
       u : next b (holder b t) ≤ last (b .size) (b .shares) (holder b t)
-      u = ticket-unfinished b t (holder b t) (L .is-sound) (G .stands)
+      u = ticket-unfinished b t (holder b t) (L .is-valid) (G .stands)
 
       f : first (b .size) (b .shares) (holder b t) ≤ next b (holder b t)
-      f = L .is-sound .share (holder b t) (G .stands .share-in) .from
+      f = L .is-valid .share (holder b t) (G .stands .share-in) .from
 
       is : next on j ≡ x
       is = entered-next b tick (b .issued) j x (at (b .ticket) j) (at (b .expiry) j) (L .long) (in-32 j (G .stands .share-in))

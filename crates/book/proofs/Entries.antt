@@ -5,7 +5,7 @@ use Prim.Native.Nat.{ℕ}
 use native.Mathlib.Omega.{arith}
 use Rattle.lists.specs.Ranges.{OneTo, every}
 use Rattle.lists.proofs.Ranges.{every-true}
-use Rattle.book.specs.Sound.{both}
+use Rattle.book.specs.Valid.{both}
 
 pub every-false : (n : ℕ) (t : ℕ → Bool) (x : ℕ) → OneTo n x → t x ≡ false → every n t ≡ false
 every-false n t x i e = go (every n t) refl

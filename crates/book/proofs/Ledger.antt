@@ -18,13 +18,13 @@ use Rattle.book.specs.Shares.{first, last, next, finished, done, sum, co
 use Rattle.book.specs.Calls.{opened}
 use Rattle.book.specs.Holding.{ShareHolds}
 use Rattle.book.proofs.Partition.{last-le, share-once}
-use Rattle.book.proofs.SoundBook.{SoundBook, Long}
+use Rattle.book.proofs.ValidBook.{ValidBook, Long}
 
 -- the book b of size n in k shares, with the positions C committed so far, in the order in which they were
 pub record Ledger (n k : ℕ) (b : Book) (C : List ℕ) : Type 0 where
   pub sized : b .size ≡ n
   pub shared : b .shares ≡ k
-  pub is-sound : SoundBook b
+  pub is-valid : ValidBook b
   pub long : Long b
   pub from-share : (p : ℕ) → Has p C → (j : ℕ) × OneTo k j × (first n k j ≤ p) × (p < next b j)
   pub to-list : (j p : ℕ) → OneTo k j → first n k j ≤ p → p < next b j → Has p C
@@ -33,7 +33,7 @@ pub record Ledger (n k : ℕ) (b : Book) (C : List ℕ) : Type 0 where
 
 -- what a share has passed, it holds
 pub passed-held : {n k : ℕ} {b : Book} {C : List ℕ} → Ledger n k b C → (j p : ℕ) → OneTo k j → first n k j ≤ p → p < next b j → ShareHolds n k j p
-passed-held {n} {k} {b} L j p e l u = record { share = e; from = l; to = let z = rw (L .sized, L .shared) at (L .is-sound .share j (rw (L .shared) e) .to) in omega arith }
+passed-held {n} {k} {b} L j p e l u = record { share = e; from = l; to = let z = rw (L .sized, L .shared) at (L .is-valid .share j (rw (L .shared) e) .to) in omega arith }
 
 -- the next position of an unfinished share is held by it alone, so that none has committed it
 pub next-uncommitted : {n k : ℕ} {b : Book} {C : List ℕ} → Ledger n k b C → (i : ℕ) → ShareHolds n k i (next b i) → ¬ Has (next b i) C
@@ -88,9 +88,9 @@ module _ (n k : ℕ) (N : OneTo 50 n) (K : OneTo 32 k) where
   unfolding first
   first-fits j e = let x = last-le n k some (pred j) j (omega arith) in omega arith
 
-  opened-sound : SoundBook (opened n k)
+  opened-valid : ValidBook (opened n k)
   unfolding opened
-  opened-sound = record {
+  opened-valid = record {
     size-in = N;
     shares-in = K;
     issued-in = omega arith;
@@ -116,7 +116,7 @@ module _ (n k : ℕ) (N : OneTo 50 n) (K : OneTo 32 k) where
   ledger-opened = record {
     sized = refl;
     shared = refl;
-    is-sound = opened-sound;
+    is-valid = opened-valid;
     long = record { next-long = length-listed (λ i. cond (leb i k) (first n k i) 0) 32; ticket-long = length-replicate {A = ℕ} 32 0; expiry-long = length-replicate {A = ℕ} 32 0 };
     from-share = λ p h. absurd h;
     to-list = λ j p e l u. (let x = opened-next j e in absurd (omega arith));
@@ -126,7 +126,7 @@ module _ (n k : ℕ) (N : OneTo 50 n) (K : OneTo 32 k) where
 
 -- ---- a call that moves no share on
 
-module _ (n k : ℕ) (b b′ : Book) (C : List ℕ) (L : Ledger n k b C) (sized : b′ .size ≡ b .size) (shared : b′ .shares ≡ b .shares) (S : SoundBook b′) (M : Long b′)
+module _ (n k : ℕ) (b b′ : Book) (C : List ℕ) (L : Ledger n k b C) (sized : b′ .size ≡ b .size) (shared : b′ .shares ≡ b .shares) (S : ValidBook b′) (M : Long b′)
     (same : (j : ℕ) → OneTo (b .shares) j → next b′ j ≡ next b j) where
   done-same : (j : ℕ) → OneTo (b .shares) j → done b′ j ≡ done b j
   unfolding done
@@ -140,7 +140,7 @@ module _ (n k : ℕ) (b b′ : Book) (C : List ℕ) (L : Ledger n k b C) (sized 
   ledger-same = record {
     sized = sized ∙ L .sized;
     shared = shared ∙ L .shared;
-    is-sound = S;
+    is-valid = S;
     long = M;
     from-share = λ p h. (let q = L .from-share p h in (q .0, q .1, q .2, rw (same (q .0) (rw (L .shared) (q .1))) (q .3)));
     to-list = λ j p e l u. L .to-list j p e l (rw (same j (rw (L .shared) e)) at u);
@@ -150,17 +150,17 @@ module _ (n k : ℕ) (b b′ : Book) (C : List ℕ) (L : Ledger n k b C) (sized 
 
 -- ---- a call that moves share i on by one
 
-module _ (n k : ℕ) (b b′ : Book) (C : List ℕ) (L : Ledger n k b C) (sized : b′ .size ≡ b .size) (shared : b′ .shares ≡ b .shares) (S : SoundBook b′) (M : Long b′)
+module _ (n k : ℕ) (b b′ : Book) (C : List ℕ) (L : Ledger n k b C) (sized : b′ .size ≡ b .size) (shared : b′ .shares ≡ b .shares) (S : ValidBook b′) (M : Long b′)
     (i : ℕ) (I : OneTo (b .shares) i) (unfinished : next b i ≤ last (b .size) (b .shares) i) (more : next b′ i ≡ suc (next b i)) (same : (j : ℕ) → OneTo (b .shares) j → j ≢ i → next b′ j ≡ next b j) where
   i-first : first n k i ≤ next b i
-  i-first = rw (L .sized, L .shared) at (L .is-sound .share i I .from)
+  i-first = rw (L .sized, L .shared) at (L .is-valid .share i I .from)
 
   i-in : OneTo k i
   i-in = rw (L .shared) at I
 
   done-more : done b′ i ≡ suc (done b i)
   unfolding done
-  done-more = rw (sized, shared, more) (let x = L .is-sound .share i I .from in omega arith)
+  done-more = rw (sized, shared, more) (let x = L .is-valid .share i I .from in omega arith)
 
   done-other : (j : ℕ) → OneTo (b .shares) j → j ≢ i → done b′ j ≡ done b j
   unfolding done
@@ -177,7 +177,7 @@ module _ (n k : ℕ) (b b′ : Book) (C : List ℕ) (L : Ledger n k b C) (sized 
   ledger-more = record {
     sized = sized ∙ L .sized;
     shared = shared ∙ L .shared;
-    is-sound = S;
+    is-valid = S;
     long = M;
     from-share = λ p h. old p (has-snoc p C (next b i) h);
     to-list = λ j p e l u. snoc-has p C (next b i) (new j p e l u (same? j i));
@@ -219,7 +219,7 @@ module _ (n k : ℕ) (b : Book) (C : List ℕ) (L : Ledger n k b C) (some : 0 < 
   all-finished j e h = go (lt? (last (b .size) (b .shares) j) (next b j))
     where
       s : first n k j ≤ next b j
-      s = rw (L .sized, L .shared) at (L .is-sound .share j (rw (L .shared) e) .from)
+      s = rw (L .sized, L .shared) at (L .is-valid .share j (rw (L .shared) e) .from)
 
       go : (last (b .size) (b .shares) j < next b j) ⊎ (next b j ≤ last (b .size) (b .shares) j) → ltb (last (b .size) (b .shares) j) (next b j) ≡ true
       go (inl l) = lt-true _ _ l

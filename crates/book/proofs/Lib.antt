@@ -1,5 +1,5 @@
 pub mod Partition
-pub mod SoundBook
+pub mod ValidBook
 pub mod Accepted
 pub mod Ledger
 pub mod CallLaws

@@ -12,7 +12,7 @@ use Rattle.book.specs.declared.types.Book.{Book}
 use Rattle.book.specs.declared.types.Releasing.the-variants as releasing
 use Rattle.book.specs.Shares.{next, ticket, expiry, finished, standing, holder, lapsed}
 use Rattle.book.specs.Calls.{unless, entered, ticked, claim-number, claim-book, take-number, take-book, commit-number, commit-book, movedOn, release-number, release-answer, release-book, due}
-use Rattle.book.proofs.SoundBook.{SoundBook, Long, entered-ticket, other-ticket}
+use Rattle.book.proofs.ValidBook.{ValidBook, Long, entered-ticket, other-ticket}
 use Rattle.book.proofs.Accepted.{TicketGood, claim-good, ticket-good}
 
 -- ---- a ticket that stands at no share
@@ -80,7 +80,7 @@ other-than b t j (inr h) e = inr (h j e)
 none-than : (t : ℕ) → (t ≡ 0) ⊎ (0 ≢ t)
 none-than t = ⊎-elim (λ e. inl e) (λ n. inr (λ q. n (sym q))) (same? t 0)
 
-module _ (b : Book) (S : SoundBook b) (L : Long b) (t : ℕ) (G : Gone b t) where
+module _ (b : Book) (S : ValidBook b) (L : Long b) (t : ℕ) (G : Gone b t) where
   in-32 : (j : ℕ) → OneTo (b .shares) j → OneTo 32 j
   in-32 j e = let z = S .shares-in in omega arith
 

@@ -43,7 +43,7 @@ use Rattle.book.specs.declared.types.Releasing.the-variants as releasing
 use Rattle.book.specs.declared.types.Reporting.{Reporting}
 use Rattle.book.specs.declared.types.Reporting.the-variants as reporting
 use Rattle.book.specs.Shares.{first, next, finished, committed, complete, holder, lapsed}
-use Rattle.book.specs.Sound.{both, either, among, sound}
+use Rattle.book.specs.Valid.{both, either, among, valid}
 
 -- refusal k unless the test holds; the tests are made in the order in which they stand
 abbrev pub unless : Bool → ℕ → ℕ → ℕ
@@ -104,7 +104,7 @@ held b j tick = both (not (eqb (at (b .ticket) j) 0)) (not (lapsed b j tick))
 
 unfoldable pub claim-number : Book → ℕ → ℕ → ℕ → ℕ
 claim-number b tick j len =
-    unless (sound b) 50
+    unless (valid b) 50
     (unless (tick-in b tick) 52
     (unless (among (b .shares) j) 53
     (unless (among 65535 len) 54
@@ -122,7 +122,7 @@ claim-book b tick j len = cond (eqb (claim-number b tick j len) 0) (entered b ti
 
 unfoldable pub ticket-number : Book → ℕ → ℕ → ℕ → ℕ
 ticket-number b tick t rest =
-    unless (sound b) 50
+    unless (valid b) 50
     (unless (tick-in b tick) 52
     (unless (not (eqb (holder b t) 0)) 58
     (unless (not (lapsed b (holder b t) tick)) 59 rest)))
@@ -185,4 +185,4 @@ release-book b tick t = cond (eqb (release-number b tick t) 0) (entered b tick (
 -- ---- report, the progress: 50; it alters nothing
 
 unfoldable pub report-answer : Book → Reporting
-report-answer b = cond (sound b) (reporting.Progress (committed b) (complete b)) (reporting.Refused 50)
+report-answer b = cond (valid b) (reporting.Progress (committed b) (complete b)) (reporting.Refused 50)

@@ -1,7 +1,7 @@
 pub mod Answers
 pub mod Shares
 pub mod Holding
-pub mod Sound
+pub mod Valid
 pub mod Calls
 pub mod Changes
 pub mod Taken

@@ -1,4 +1,4 @@
-// The share book, and what its operations answer.
+// The share book, what its operations answer, and what they alter.
 
 // A book is a lease table: it divides the positions of one size among 1 to 32 shares (shards), each of which one session at a time may
 // hold. Entry j - 1 of each list is share j's; unused entries are 0.
@@ -104,4 +104,25 @@ pub struct CommitDone {
 pub struct ReleaseDone {
     pub answer: Releasing,
     pub book: Book,
+}
+
+// What is decided on the lent parts of a book: the answer, and what the call alters.
+pub struct ClaimChoice {
+    pub answer: Claiming,
+    pub change: Change,
+}
+
+pub struct TakeChoice {
+    pub answer: Taking,
+    pub change: Change,
+}
+
+pub struct CommitChoice {
+    pub answer: Committing,
+    pub change: Change,
+}
+
+pub struct ReleaseChoice {
+    pub answer: Releasing,
+    pub change: Change,
 }

@@ -5,40 +5,15 @@ mod books;
 use book::Book;
 use book::ClaimDone;
 use book::CommitDone;
-use book::OpenDone;
-use book::Opening;
 use book::ReleaseDone;
 use book::Reporting;
 use book::TakeDone;
-use book_shares::tests::among;
+pub use book_opening::open_core;
 use books::changed;
 use books::heads;
-use books::opened;
-use diagrams::Diagram;
 ghost use mathlib.Core.Path.{_≡_};
 ghost use Rattle.book.specs.Taken.{TakePromise};
-ghost use Rattle.book.specs.Calls.{open-answer, open-book, claim-answer, claim-book, commit-answer, commit-book, release-answer, release-book, report-answer};
-
-pub fn open_core(b: Book, size: u64, k: u64) -> OpenDone
-    ensures { λ r. ⌜ (r .answer ≡ open-answer size k) × (r .book ≡ open-book b size k) ⌝ }
-{
-    if !among(Diagram::MAX_LISTED as u64, size) {
-        return OpenDone {
-            answer: Opening::Refused(31),
-            book: b,
-        };
-    }
-    if !among(32, k) {
-        return OpenDone {
-            answer: Opening::Refused(51),
-            book: b,
-        };
-    }
-    OpenDone {
-        answer: Opening::Opened,
-        book: opened(size, k),
-    }
-}
+ghost use Rattle.book.specs.Calls.{claim-answer, claim-book, commit-answer, commit-book, release-answer, release-book, report-answer};
 
 pub fn claim_core(b: Book, tick: u64, share: u64, length: u64) -> ClaimDone
     ensures { λ r. ⌜ (r .answer ≡ claim-answer b tick share length) × (r .book ≡ claim-book b tick share length) ⌝ }

@@ -9,7 +9,7 @@ use Rattle.book.specs.declared.types.Book.{Book}
 use Rattle.book.specs.declared.types.Reporting.the-variants as reporting
 use Rattle.book.specs.Answers.{opening-number, claiming-number, taking-number, committing-number, releasing-number, reporting-number}
 use Rattle.book.specs.Shares.{committed, complete}
-use Rattle.book.specs.Sound.{sound}
+use Rattle.book.specs.Valid.{valid}
 use Rattle.book.specs.Calls.{open-answer, open-number, claim-answer, claim-number, take-answer, take-number, commit-answer, commit-number, release-answer, release-number, report-answer}
 use Rattle.theorems.specs.BookNumbers.{BookNumbers}
 
@@ -41,9 +41,9 @@ release-is : (b : Book) (tick t : ℕ) → releasing-number (release-answer b ti
 unfolding release-answer
 release-is b tick t = number-is releasing-number _ _ (release-number b tick t) refl refl
 
-report-is : (b : Book) → reporting-number (report-answer b) ≡ cond (sound b) 0 50
+report-is : (b : Book) → reporting-number (report-answer b) ≡ cond (valid b) 0 50
 unfolding report-answer
-report-is b = go (sound b)
+report-is b = go (valid b)
   where
     go : (s : Bool) → reporting-number (cond s (reporting.Progress (committed b) (complete b)) (reporting.Refused 50)) ≡ cond s 0 50
     go true = refl

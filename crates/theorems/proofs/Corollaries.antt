@@ -16,7 +16,7 @@ use Rattle.book.specs.Shares.{first, next, committed, holder}
 use Rattle.book.specs.Calls.{opened, entered, due, commit-number, commit-answer, release-number, release-book}
 use Rattle.book.specs.Holding.{ShareHolds}
 use Rattle.book.proofs.Partition.{share-once}
-use Rattle.book.proofs.SoundBook.{other-next, other-ticket, other-expiry}
+use Rattle.book.proofs.ValidBook.{other-next, other-ticket, other-expiry}
 use Rattle.book.proofs.Accepted.{TicketGood, ticket-good}
 use Rattle.book.proofs.Ledger.{Ledger, passed-held}
 use Rattle.book.proofs.CallLaws.{commit-good, committed-number, take-good}
@@ -34,10 +34,10 @@ module _ (n k : ℕ) (b : Book) (C : List ℕ) (L : Ledger n k b C) where
   }
 
   gone-after : (t : ℕ) → Gone b t → (c : Call) → Gone (bookAfter b c) t
-  gone-after t G (claim tick j len) = gone-claim b (L .is-sound) (L .long) t G tick j len
-  gone-after t G (take tick u s0 s1 word) = gone-take b (L .is-sound) (L .long) t G tick u (length s0) (length s1) (length word)
-  gone-after t G (commit tick u p) = gone-commit b (L .is-sound) (L .long) t G tick u p
-  gone-after t G (release tick u) = gone-release b (L .is-sound) (L .long) t G tick u
+  gone-after t G (claim tick j len) = gone-claim b (L .is-valid) (L .long) t G tick j len
+  gone-after t G (take tick u s0 s1 word) = gone-take b (L .is-valid) (L .long) t G tick u (length s0) (length s1) (length word)
+  gone-after t G (commit tick u p) = gone-commit b (L .is-valid) (L .long) t G tick u p
+  gone-after t G (release tick u) = gone-release b (L .is-valid) (L .long) t G tick u
   gone-after t G report = G
 
   own-share : (tick t j : ℕ) → OneTo 32 j → j ≢ holder b t → SameShare b (release-book b tick t) j
@@ -47,7 +47,7 @@ module _ (n k : ℕ) (b : Book) (C : List ℕ) (L : Ledger n k b C) where
       go : (release-number b tick t ≡ 0) ⊎ (release-number b tick t ≢ 0) → SameShare b (cond (eqb (release-number b tick t) 0) (entered b tick (b .issued) (holder b t) (due b t) 0 0) b) j
       go (inl z) =
           let G = ticket-good b tick t 0 (unfold release-number in z) .0 in
-          let i : OneTo 32 (holder b t) = (let x = G .stands .share-in in let y = L .is-sound .shares-in in omega arith) in
+          let i : OneTo 32 (holder b t) = (let x = G .stands .share-in in let y = L .is-valid .shares-in in omega arith) in
           rw (eqb-eq _ _ z) record {
             same-next = other-next b tick (b .issued) (holder b t) (due b t) 0 0 (L .long) i j n;
             same-ticket = other-ticket b tick (b .issued) (holder b t) (due b t) 0 0 (L .long) i j n;

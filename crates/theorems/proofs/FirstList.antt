@@ -27,12 +27,12 @@ use Rattle.book.specs.declared.types.Taking.the-variants.{Given}
 use Rattle.book.specs.declared.types.Committing.the-variants.{Committed}
 use Rattle.book.specs.declared.types.Reporting.the-variants.{Progress}
 use Rattle.book.specs.Shares.{first, last, next, ticket, finished, committed, complete, holder}
-use Rattle.book.specs.Sound.{among, sound}
+use Rattle.book.specs.Valid.{among, valid}
 use Rattle.book.specs.Calls.{unless, open-number, open-answer, open-book, opened, entered, due, take-number, take-list, movedOn, commit-number, commit-answer, commit-book, report-answer}
 use Rattle.book.specs.Taken.{TakePromise}
 use Rattle.book.specs.Holding.{ShareHolds}
 use Rattle.book.proofs.Partition.{share-of, held-in, share-once}
-use Rattle.book.proofs.SoundBook.{facts-sound, among-true, entered-next}
+use Rattle.book.proofs.ValidBook.{facts-valid, among-true, entered-next}
 use Rattle.book.proofs.Accepted.{zero-unless, Stands, ticket-unfinished}
 use Rattle.book.proofs.Ledger.{Ledger, passed-held, next-uncommitted, ledger-opened, finished-all, all-finished, complete-shares, shares-complete}
 use Rattle.book.proofs.CallLaws.{ledger-claim, ledger-take, ledger-commit, ledger-release, commit-good, committed-number, take-good}
@@ -114,7 +114,7 @@ module _ (n k : ℕ) (N : OneTo 50 n) (K : OneTo 32 k) (calls : List Call) where
 
   counts : report-answer b ≡ Progress (length C) (complete b)
   unfolding report-answer
-  counts = rw (facts-sound b (ledger .is-sound), ledger .total)
+  counts = rw (facts-valid b (ledger .is-valid), ledger .total)
 
   -- the report says complete exactly if the book is
   says-complete : (report-answer b ≡ Progress (length C) true) ↔ (complete b ≡ true)
@@ -147,8 +147,8 @@ module _ (n k : ℕ) (N : OneTo 50 n) (K : OneTo 32 k) (calls : List Call) where
   due-held : (t j : ℕ) → Stands b t j → ShareHolds n k j (next b j)
   due-held t j T = record {
     share = rw (ledger .shared) at (T .share-in);
-    from = rw (ledger .sized, ledger .shared) at (ledger .is-sound .share j (T .share-in) .from);
-    to = rw (ledger .sized, ledger .shared) at (ticket-unfinished b t j (ledger .is-sound) T);
+    from = rw (ledger .sized, ledger .shared) at (ledger .is-valid .share j (T .share-in) .from);
+    to = rw (ledger .sized, ledger .shared) at (ticket-unfinished b t j (ledger .is-valid) T);
   }
 
   is-due : (t : ℕ) → Stands b t (holder b t) → Due n k b C t (holder b t) (next b (holder b t))
@@ -195,7 +195,7 @@ module _ (n k : ℕ) (N : OneTo 50 n) (K : OneTo 32 k) (calls : List Call) where
       j = holder b t
 
       i : OneTo 32 j
-      i = let z = ledger .is-sound .shares-in in let y = T .share-in in omega arith
+      i = let z = ledger .is-valid .shares-in in let y = T .share-in in omega arith
 
       go : (test : Bool)
           → next (cond test (entered b tick (b .issued) j (suc (next b j)) 0 0) (entered b tick (b .issued) j (suc (next b j)) (ticket b j) (at (b .expiry) j))) j ≡ suc (next b j)

@@ -22,7 +22,7 @@ use Rattle.listing.specs.Diagrams.{diagramOf, diagramAt}
 use Rattle.listing_ranking.specs.declared.Total.the-variants.{Number}
 use Rattle.listing_ranking.specs.Promises.{CountPromise}
 use Rattle.book.specs.Shares.{first, last, finished, holder, lapsed}
-use Rattle.book.specs.Sound.{in-range, next-in, finished-free, ticket-once, ticket-issued, expiry-in, share-sound, entry-unused, entries-sound, counters-in, sound}
+use Rattle.book.specs.Valid.{in-range, next-in, finished-free, ticket-once, ticket-issued, expiry-in, share-valid, entry-unused, entries-valid, counters-in, valid}
 use Rattle.book.specs.Calls.{opened, entered, tick-in, held, claim-number, claim-book, ticket-number, due, commit-number, commit-answer}
 use Rattle.book.proofs.Examples.{size-4-in-3, size-1-in-32, size-1-only-32}
 use Rattle.theorems.specs.Table.{Table, Limits}
@@ -93,7 +93,7 @@ taken-50 : CountPromise 50 (Number (count 50))
 taken-50 = (omega arith, refl)
 
 pub limits : Limits
-unfolding listing completions count wordAt diagramAt diagramOf spell spells first last finished holder lapsed in-range next-in finished-free ticket-once ticket-issued expiry-in share-sound entry-unused entries-sound counters-in sound opened entered tick-in held claim-number claim-book ticket-number due commit-number commit-answer
+unfolding listing completions count wordAt diagramAt diagramOf spell spells first last finished holder lapsed in-range next-in finished-free ticket-once ticket-issued expiry-in share-valid entry-unused entries-valid counters-in valid opened entered tick-in held claim-number claim-book ticket-number due commit-number commit-answer
 limits = record {
   size-50 = taken-50;
   size-51 = (refl, λ e. omega arith);

@@ -6,7 +6,7 @@ use mathlib.Core.Bool.{cond}
 use Prim.Native.Nat.{ℕ}
 use Rattle.book.specs.declared.types.Book.{Book}
 use Rattle.book.specs.Answers.{opening-number, claiming-number, taking-number, committing-number, releasing-number, reporting-number}
-use Rattle.book.specs.Sound.{sound}
+use Rattle.book.specs.Valid.{valid}
 use Rattle.book.specs.Calls as calls
 
 pub record BookNumbers : Type 0 where
@@ -16,4 +16,4 @@ pub record BookNumbers : Type 0 where
   pub commit : (b : Book) (tick ticket position : ℕ) → committing-number (calls.commit-answer b tick ticket position) ≡ calls.commit-number b tick ticket position
   pub release : (b : Book) (tick ticket : ℕ) → releasing-number (calls.release-answer b tick ticket) ≡ calls.release-number b tick ticket
   -- the report refuses 50 alone
-  pub report : (b : Book) → reporting-number (calls.report-answer b) ≡ cond (sound b) 0 50
+  pub report : (b : Book) → reporting-number (calls.report-answer b) ≡ cond (valid b) 0 50

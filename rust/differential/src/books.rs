@@ -229,7 +229,7 @@ fn length(random: &mut Random, patience: u64) -> u64 {
     }
 }
 
-/// Alters one to three fields, often to an edge of what is sound.
+/// Alters one to three fields, often to an edge of what is valid.
 fn damage(random: &mut Random, book: &mut Book) {
     for _ in 0..1 + random.weighted(&[5, 2, 1]) {
         let (one, other) = (random.below(32), random.below(32));

@@ -4,7 +4,7 @@ use crate::raw;
 use crate::Refusal;
 
 /// A share book. The caller owns it and lends it to each operation; entry j - 1 of each list is share j's. Every operation but
-/// [`open`](Book::open) refuses 50, a book that is not sound; then all but the [`report`](Book::report) refuse 52, a tick below the latest or from
+/// [`open`](Book::open) refuses 50, a book that is not valid; then all but the [`report`](Book::report) refuse 52, a tick below the latest or from
 /// 2^48 on.
 #[repr(C)]
 #[derive(Clone, Debug, PartialEq, Eq, Hash)]

@@ -44,8 +44,8 @@ pub enum Refusal {
     RunUnsound = 34,
     /// 35: the size is outside 1..9.
     WalkSizeOutside = 35,
-    /// 50: the book is not sound.
-    BookUnsound = 50,
+    /// 50: the book is not valid.
+    BookInvalid = 50,
     /// 51: the number of shares is outside 1..32.
     SharesOutside = 51,
     /// 52: the tick is below the latest, or 2^48 or above.
@@ -91,7 +91,7 @@ const REFUSALS: [(Refusal, &str); 30] = [
     (PositionOutside, "the position is 0 or above the count"),
     (RunUnsound, "the run is neither fresh, nor at a diagram, nor finished"),
     (WalkSizeOutside, "the size is outside 1..9"),
-    (BookUnsound, "the book is not sound"),
+    (BookInvalid, "the book is not valid"),
     (SharesOutside, "the number of shares is outside 1..32"),
     (TickOutside, "the tick is below the latest, or 2^48 or above"),
     (ShareOutside, "the book has no such share"),

@@ -95,7 +95,7 @@ fn rows_of_a_block() {
 #[test]
 fn a_book_to_its_end() {
     let mut book = Book::blank();
-    assert_eq!(book.report(), Err(Refusal::BookUnsound));
+    assert_eq!(book.report(), Err(Refusal::BookInvalid));
     book.open(4, 3).unwrap();
     assert_eq!((book.size, book.shares, &book.next[..4]), (4, 3, &[1, 3, 6, 0][..]));
     let (mut s0, mut s1, mut word) = ([0; 4], [0; 4], [0; 5]);

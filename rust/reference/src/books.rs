@@ -87,8 +87,8 @@ impl Book {
     }
 
     /// 50.
-    fn sound(&self) -> Result<(), u16> {
-        let unsound = self.has_size_or_k_out_of_range()
+    fn valid(&self) -> Result<(), u16> {
+        let invalid = self.has_size_or_k_out_of_range()
             || self.has_a_next_position_outside_its_share_and_the_place_past_it()
             || self.has_a_finished_share_with_a_ticket()
             || self.has_equal_tickets()
@@ -98,12 +98,12 @@ impl Book {
             || self.has_an_expiry_without_a_ticket()
             || self.has_an_expiry_too_far_ahead()
             || self.has_unused_shares_not_all_zero();
-        if unsound { Err(50) } else { Ok(()) }
+        if invalid { Err(50) } else { Ok(()) }
     }
 
     /// 50; 52.
-    fn sound_at(&self, tick: u64) -> Result<(), u16> {
-        self.sound()?;
+    fn valid_at(&self, tick: u64) -> Result<(), u16> {
+        self.valid()?;
         if tick < self.latest || tick >= TICKS { Err(52) } else { Ok(()) }
     }
 }
@@ -169,7 +169,7 @@ impl Book {
 
     /// Claim: 50; 52; 53; 54; 55; 56; 57.
     pub fn claim(&mut self, tick: u64, share: u64, length: u64) -> Result<u64, u16> {
-        self.sound_at(tick)?;
+        self.valid_at(tick)?;
         if share < 1 || share > self.shares {
             return Err(53);
         }
@@ -195,7 +195,7 @@ impl Book {
 
     /// Take: 50; 52; 58; 59; 9.
     pub fn take(&mut self, tick: u64, ticket: u64, rooms: Rooms) -> Result<Taken, u16> {
-        self.sound_at(tick)?;
+        self.valid_at(tick)?;
         let j = self.held(tick, ticket)?;
         let n = self.size as usize;
         if short(n, rooms) {
@@ -207,7 +207,7 @@ impl Book {
 
     /// Commit: 50; 52; 58; 59; 60.
     pub fn commit(&mut self, tick: u64, ticket: u64, position: u64) -> Result<(), u16> {
-        self.sound_at(tick)?;
+        self.valid_at(tick)?;
         let j = self.held(tick, ticket)?;
         if position != self.next[j] {
             return Err(60);
@@ -222,7 +222,7 @@ impl Book {
 
     /// Release: 50; 52; 58; 59.
     pub fn release(&mut self, tick: u64, ticket: u64) -> Result<(), u16> {
-        self.sound_at(tick)?;
+        self.valid_at(tick)?;
         let j = self.held(tick, ticket)?;
         self.end_ticket(j);
         self.latest = tick;
@@ -231,7 +231,7 @@ impl Book {
 
     /// Report: 50.
     pub fn report(&self) -> Result<Report, u16> {
-        self.sound()?;
+        self.valid()?;
         let committed = self.each().map(|j| self.next[j] - self.first(j)).sum();
         Ok(Report { committed, complete: self.each().all(|j| self.is_finished(j)) })
     }

@@ -41,9 +41,9 @@ type Edit = fn(&mut Book);
 
 #[test]
 fn each_condition_of_50() {
-    let mut sound = opened(4, 3);
-    sound.claim(100, 1, 65_535).unwrap();
-    sound.claim(100, 2, 1).unwrap();
+    let mut valid = opened(4, 3);
+    valid.claim(100, 1, 65_535).unwrap();
+    valid.claim(100, 2, 1).unwrap();
     let edits: [(&str, Edit); 16] = [
         ("size 0", |book| book.size = 0),
         ("size 51", |book| book.size = 51),
@@ -63,12 +63,12 @@ fn each_condition_of_50() {
         ("an unused expiry", |book| book.expiry[31] = 1),
     ];
     for (name, edit) in edits {
-        let mut book = sound.clone();
+        let mut book = valid.clone();
         assert!(book.report().is_ok());
         edit(&mut book);
         assert_eq!(book.report(), Err(50), "{name}");
         assert_eq!(book.claim(0, 0, 0), Err(50), "{name}");
     }
-    sound.issued = 65_535;
-    assert_eq!(sound.claim(101, 2, 1), Err(57));
+    valid.issued = 65_535;
+    assert_eq!(valid.claim(101, 2, 1), Err(57));
 }

@@ -3,7 +3,7 @@ use borrow.Author.Needs.{needs}
 use mathlib.Core.Path.{_≡_, sym, _∙_}
 use mathlib.Core.Bool.{true}
 use borrow.Author.Tests.{not-true, not-false}
-use Rattle.book.specs.Sound.{sound}
+use Rattle.book.specs.Valid.{valid}
 use Rattle.book.specs.Calls.{report-answer}
 use denote.Ref.{now}
 use Rattle.book.specs.declared.types.Book.{Book}
@@ -12,32 +12,32 @@ use Rattle.book_decisions.proofs.report.Statement.{statement}
 use Rattle.book_decisions.proofs.report.Tie as tie
 use Rattle.book_decisions.proofs.report.Reads as reads
 use Rattle.book_decisions.proofs.report.Lts as lts
-use Rattle.book_checks.proofs.progress.committed.Reads as committed-reads
-use Rattle.book_checks.proofs.progress.complete.Reads as complete-reads
-use Rattle.book_validity.proofs.sound.Reads as sound-reads
+use Rattle.book_progress.proofs.committed.Reads as committed-reads
+use Rattle.book_progress.proofs.complete.Reads as complete-reads
+use Rattle.book_validity.proofs.valid.Reads as valid-reads
 
 -- the book that is decided on
 abbrev lent : tie.Start → Book
 lent c = bookWith (c .args .h) (now (c .args .nexts)) (now (c .args .tickets)) (now (c .args .expiries))
 
-is-sound : (c : tie.Else1) → sound (lent (c .before .before .before .before .before)) ≡ true
-is-sound c = sym (c .before .sound .ensures) ∙ not-false _ (c .if1 .left)
+is-valid : (c : tie.Else1) → valid (lent (c .before .before .before .before .before)) ≡ true
+is-valid c = sym (c .before .valid .ensures) ∙ not-false _ (c .if1 .left)
 
-sound-requires : tie.Need-sound-requires
-sound-requires c κs = search needs
+valid-requires : tie.Need-valid-requires
+valid-requires c κs = search needs
 
 returns : tie.Need-returns
-returns c = unfold report-answer in (rw (sym (c .before .sound .ensures) ∙ not-true _ (c .if1 .taken)))
+returns c = unfold report-answer in (rw (sym (c .before .valid .ensures) ∙ not-true _ (c .if1 .taken)))
 
 committed-requires : tie.Need-committed-requires
-committed-requires c κs = (is-sound c, c .before .before .before .before .before .pre)
+committed-requires c κs = (is-valid c, c .before .before .before .before .before .pre)
 
 complete-requires : tie.Need-complete-requires
-complete-requires c κs = (is-sound (c .before), c .before .before .before .before .before .before .pre)
+complete-requires c κs = (is-valid (c .before), c .before .before .before .before .before .before .pre)
 
 returns-2 : tie.Need-returns-2
-returns-2 c = unfold report-answer in (rw (is-sound (c .before .before), c .complete .ensures, c .before .committed .ensures))
+returns-2 c = unfold report-answer in (rw (is-valid (c .before .before), c .complete .ensures, c .before .committed .ensures))
 
 pub report-spec : {M : Type 1} → statement M
 report-spec =
-    tie.close (tie.spec sound-requires returns committed-requires complete-requires returns-2)
+    tie.close (tie.spec valid-requires returns committed-requires complete-requires returns-2)

@@ -5,9 +5,9 @@ use base.Logic.{id⊢}
 use contract.Running.{givenOf}
 use Rattle.book_lent_walks.proofs.Thin.{thin-meets}
 use Rattle.book_lent_walks.proofs.Answers.{shape, opening}
-use Rattle.book_operations.proofs.open_core as callee
-use Rattle.book_operations.proofs.open_core.Symbol as callee-def
-use Rattle.book_operations.proofs.open_core.Met as callee-thm
+use Rattle.book_opening.proofs.open_core as callee
+use Rattle.book_opening.proofs.open_core.Symbol as callee-def
+use Rattle.book_opening.proofs.open_core.Met as callee-thm
 use Rattle.book_lent.proofs.open as own
 use Rattle.book_lent.proofs.open.Key as key
 use Rattle.book_lent.proofs.open.Statement as stated

@@ -7,7 +7,7 @@ use Rattle.book_operations.proofs.claim_core.Reads as reads
 use Rattle.book_operations.proofs.claim_core.Lts as lts
 use Rattle.book_operations.proofs.books.changed.Reads as changed-reads
 use Rattle.book_operations.proofs.books.heads.Reads as heads-reads
-use Rattle.book_decisions.proofs.claim.Reads as claim-reads
+use Rattle.book_decisions_claim.proofs.claim.Reads as claim-reads
 
 heads-requires : tie.Need-heads-requires
 heads-requires c κs = search needs

@@ -7,7 +7,7 @@ use Rattle.book_operations.proofs.commit_core.Reads as reads
 use Rattle.book_operations.proofs.commit_core.Lts as lts
 use Rattle.book_operations.proofs.books.changed.Reads as changed-reads
 use Rattle.book_operations.proofs.books.heads.Reads as heads-reads
-use Rattle.book_decisions.proofs.commit.Reads as commit-reads
+use Rattle.book_decisions_commit.proofs.commit.Reads as commit-reads
 
 heads-requires : tie.Need-heads-requires
 heads-requires c κs = search needs

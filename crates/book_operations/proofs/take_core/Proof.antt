@@ -6,7 +6,7 @@ use Rattle.book_operations.proofs.take_core.Reads as reads
 use Rattle.book_operations.proofs.take_core.Lts as lts
 use Rattle.book_operations.proofs.books.changed.Reads as changed-reads
 use Rattle.book_operations.proofs.books.heads.Reads as heads-reads
-use Rattle.book_decisions.proofs.take.Reads as take-reads
+use Rattle.book_decisions_take.proofs.take.Reads as take-reads
 
 heads-requires : tie.Need-heads-requires
 heads-requires c κs = search needs

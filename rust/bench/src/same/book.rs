@@ -21,16 +21,16 @@ fn finished(book: &Book, i: usize) -> bool {
 }
 
 /// Condition 50.
-fn sound(book: &Book) -> bool {
+fn valid(book: &Book) -> bool {
     if !listed(book.size) || !(1..=MAX_SHARES).contains(&book.shares) || book.issued > MAX_ISSUED || book.latest >= TICKS {
         return false;
     }
     let k = book.shares as usize;
     let unused = |list: &[u64]| list[k..].iter().all(|&x| x == 0);
-    shares_sound(book) && unused(&book.next) && unused(&book.ticket) && unused(&book.expiry)
+    shares_valid(book) && unused(&book.next) && unused(&book.ticket) && unused(&book.expiry)
 }
 
-fn shares_sound(book: &Book) -> bool {
+fn shares_valid(book: &Book) -> bool {
     let total = count_of(book.size as usize);
     let mut before = 0;
     (0..book.shares as usize).all(|i| {
@@ -48,7 +48,7 @@ fn shares_sound(book: &Book) -> bool {
 
 /// 50, then 52.
 fn admit(book: &Book, tick: u64) -> Result<(), u16> {
-    if !sound(book) {
+    if !valid(book) {
         return Err(50);
     }
     if tick < book.latest || tick >= TICKS {

@@ -42,14 +42,14 @@ fn last_of(book: &Book, share: usize) -> u64 {
 }
 
 /// Condition 50.
-fn sound(book: &Book) -> bool {
+fn valid(book: &Book) -> bool {
     if !listed(book.size) || book.shares.wrapping_sub(1) >= MAX_SHARES as u64 || book.issued > MAX_ISSUED || book.latest >= TICKS {
         return false;
     }
-    shares_sound(book) && tickets_differ(book) && rest_unused(book)
+    shares_valid(book) && tickets_differ(book) && rest_unused(book)
 }
 
-fn shares_sound(book: &Book) -> bool {
+fn shares_valid(book: &Book) -> bool {
     let k = book.shares as usize;
     let mut lasts = Lasts::new(count_of(book.size as usize), book.shares);
     let bound = book.latest + MAX_LENGTH;
@@ -102,7 +102,7 @@ fn rest_unused(book: &Book) -> bool {
 /// 50, then 52.
 #[inline(always)]
 fn admit(book: &Book, tick: u64) -> Result<(), u16> {
-    if !sound(book) {
+    if !valid(book) {
         return Err(50);
     }
     if tick < book.latest || tick >= TICKS {

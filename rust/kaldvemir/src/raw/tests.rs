@@ -124,11 +124,11 @@ fn refused_runs() {
 fn refused_book_calls() {
     let mut held = book();
     assert_eq!(held.claim(5, 1, 10), Ok(1));
-    let mut unsound = held.clone();
-    unsound.ticket[31] = 1;
+    let mut invalid = held.clone();
+    invalid.ticket[31] = 1;
     let (mut out, mut other, mut values, mut lists) = (WIDE, WIDE, [WIDE; 3], [[MARK; 5]; 3]);
     let [s0, s1, word] = &mut lists;
-    for (before, ticks) in [(unsound, [(5, 50), (4, 50), (0, 50)]), (held, [(4, 52), (1 << 48, 52), (15, 59)])] {
+    for (before, ticks) in [(invalid, [(5, 50), (4, 50), (0, 50)]), (held, [(4, 52), (1 << 48, 52), (15, 59)])] {
         for (tick, number) in ticks {
             let mut book = before.clone();
             let claimed = if number == 59 { 53 } else { number };
