@@ -21,10 +21,10 @@ use Rattle.words.specs.declared.Lettered.{Lettered}
 use Rattle.words.specs.Letters.{LettersPromise}
 use Rattle.words_reading.specs.declared.Reading.{Reading}
 use Rattle.words_reading.specs.Read.{readAnswer, ReadPromise}
-use Rattle.labelling_operations.specs.declared.Relabelling.{Relabelling}
-use Rattle.labelling_operations.specs.declared.Comparison.{Comparison}
-use Rattle.labelling_operations.specs.declared.Symmetry.{Symmetry}
-use Rattle.labelling_operations.specs.declared.KeepMark.{KeepMark}
+use Rattle.labelling_answers.specs.declared.Relabelling.{Relabelling}
+use Rattle.labelling_answers.specs.declared.Comparison.{Comparison}
+use Rattle.labelling_answers.specs.declared.Symmetry.{Symmetry}
+use Rattle.labelling_answers.specs.declared.KeepMark.{KeepMark}
 use Rattle.labelling_operations.specs.Promises.{RelabelPromise, CharacteristicPromise, CompareRootedPromise, CompareUnrootedPromise, SymmetriesPromise, KeptPromise}
 use Rattle.invariants.specs.declared.Measured.{Measured}
 use Rattle.invariants.specs.Promises.{InvariantsPromise}

@@ -5,8 +5,8 @@ use mathlib.Core.Bool.{true≢false}
 use denote.Ref.{now}
 use Rattle.diagrams.specs.Check.{Accepts}
 use borrow.Author.Needs.{needs}
-use Rattle.labelling_operations.proofs.compare.Statement.{statement}
-use Rattle.labelling_operations.proofs.compare.Tie as tie
+use Rattle.labelling_operations_compare.proofs.compare.Statement.{statement}
+use Rattle.labelling_operations_compare.proofs.compare.Tie as tie
 
 abbrev First : tie.Start → Type 0
 First s = Accepts (now (s .args .s0)) (now (s .args .s1)) (s .args .r)

@@ -2,8 +2,8 @@
 use borrow.Author.Needs.{needs}
 use mathlib.Core.Path.{refl}
 use mathlib.Core.Logic.{inl}
-use Rattle.labelling_operations.proofs.relabel.Statement.{statement}
-use Rattle.labelling_operations.proofs.relabel.Tie as tie
+use Rattle.labelling_operations_relabel.proofs.relabel.Statement.{statement}
+use Rattle.labelling_operations_relabel.proofs.relabel.Tie as tie
 
 check-requires : tie.Need-check-requires
 check-requires c κs = search needs

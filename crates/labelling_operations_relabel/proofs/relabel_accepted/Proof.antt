@@ -7,8 +7,8 @@ use denote.Ref.{now}
 use lib.ListN.{length}
 use Rattle.words.specs.Outputs.{Short}
 use Rattle.words.proofs.Outputs.{not-short, untouched}
-use Rattle.labelling_operations.proofs.relabel_accepted.Statement.{statement}
-use Rattle.labelling_operations.proofs.relabel_accepted.Tie as tie
+use Rattle.labelling_operations_relabel.proofs.relabel_accepted.Statement.{statement}
+use Rattle.labelling_operations_relabel.proofs.relabel_accepted.Tie as tie
 
 -- past the three tests no list is short
 enough : (c : tie.Else3) → ¬ Short (length (now (c .before .before .before .before .before .before .before .before .args .s0))) (now (c .before .before .before .before .before .before .before .before .args .t0)) (now (c .before .before .before .before .before .before .before .before .args .t1)) (now (c .before .before .before .before .before .before .before .before .args .word))
