@@ -5,7 +5,7 @@ use Prim.Native.Nat.{ℕ, _+_}
 use native.Mathlib.Omega.{arith}
 use lib.ListN.{length, take, drop, length-append}
 use lib.Seq.{take-at, drop-at, take-all, drop-drop}
-use Rattle.run_steps.specs.declared.Run.{Run}
+use Rattle.run_answers.specs.declared.Run.{Run}
 use Rattle.book.specs.declared.types.Book.{Book}
 use Rattle.kaldvemir_layout.specs.Layout.{book-numbers, book-of, run-numbers, run-of}
 use Rattle.kaldvemir_layout.specs.Inverse.{Whole, LayoutInverse}

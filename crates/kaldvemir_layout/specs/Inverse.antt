@@ -7,7 +7,7 @@ use mathlib.Core.Path.{_≡_}
 use mathlib.Core.List.{List}
 use Prim.Native.Nat.{ℕ}
 use lib.ListN.{length}
-use Rattle.run_steps.specs.declared.Run.{Run}
+use Rattle.run_answers.specs.declared.Run.{Run}
 use Rattle.book.specs.declared.types.Book.{Book}
 use Rattle.kaldvemir_layout.specs.Layout.{book-numbers, book-of, run-numbers, run-of}
 

@@ -34,9 +34,9 @@ use Rattle.listing_ranking.specs.declared.Place.{Place}
 use Rattle.listing_ranking.specs.Promises.{CountPromise, DiagramAtPromise, PositionPromise}
 use Rattle.listing_plain_walk.specs.declared.Walked.{Walked}
 use Rattle.listing_plain_walk.specs.Promises.{PlainWalkPromise}
-use Rattle.run_steps.specs.declared.Run.{Run}
-use Rattle.run_steps.specs.declared.Beginning.{Beginning}
-use Rattle.run_steps.specs.declared.Stepping.{Stepping}
+use Rattle.run_answers.specs.declared.Run.{Run}
+use Rattle.run_answers.specs.declared.Beginning.{Beginning}
+use Rattle.run_answers.specs.declared.Stepping.{Stepping}
 use Rattle.run_steps.specs.Promises.{BeginPromise, StepPromise}
 use Rattle.run_blocks.specs.declared.Listing.{Listing}
 use Rattle.run_blocks.specs.Promises.{ListPromise, ListMarkedPromise}
