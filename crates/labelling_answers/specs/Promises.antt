@@ -18,7 +18,7 @@ use Rattle.diagrams.specs.Check.{Accepts, Refuses}
 use Rattle.words.specs.Outputs.{Short, Written, Untouched}
 use Rattle.labelling.specs.Labelling.{wordOf, characteristic}
 use Rattle.labelling.specs.Rootings.{Kept, symmetries}
-use Rattle.labelling_comparison.specs.Questions.{IsomorphicBy}
+use Rattle.labelling_isomorphism.specs.Isomorphic.{IsomorphicBy}
 pub use Rattle.labelling_relabelling.specs.Promises.{CharacteristicPromise}
 use Rattle.labelling_answers.specs.declared.Relabelling.{Relabelling}
 use Rattle.labelling_answers.specs.declared.Relabelling.the-variants as relabelling

@@ -2,7 +2,7 @@
 // second (1 to 8, with the side).
 use diagrams::Verdict;
 use labelling_answers::Comparison;
-use labelling_comparison::isomorphic;
+use labelling_isomorphism::isomorphic;
 ghost use Rattle.labelling_answers.specs.Promises.{ComparePromise, CompareRootedPromise, CompareUnrootedPromise};
 
 // Compares two diagrams, with their roots or without: checks the first, then the second, and tells of a refusal the side.

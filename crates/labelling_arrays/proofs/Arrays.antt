@@ -10,12 +10,12 @@ use lib.Seq.{getD-set-same, getD-set-other}
 use Rattle.lists.specs.Lists.{at, tabulate, Has, Distinct}
 use Rattle.lists.specs.Ranges.{OneTo}
 use Rattle.lists.proofs.Tests.{same?, eqb-same, eqb-ne}
-use Rattle.lists.proofs.Lists.{length-listed}
+use Rattle.lists.proofs.Lists.{length-listed, at-zeros}
 use Rattle.lists.proofs.Copies.{written-more, written-length}
 use Rattle.pending_ring.proofs.Laws.{ring-empty}
 use Rattle.labelling.specs.Labelling.{labelOf, edgeOf, relabel}
 use Rattle.labelling.proofs.Labels.{lab-in}
-use Rattle.labelling_events.specs.Scratch.{LabelsHeld, SomeLabelsHeld, Ready}
+use Rattle.labelling_arrays.specs.Labels.{LabelsHeld, SomeLabelsHeld, Ready}
 
 -- ---- 0 is no label
 
@@ -28,14 +28,9 @@ lab-zero o x e h = let i = lab-in o x h in omega arith
 
 -- ---- arrays of zeros
 
-zeros-at : (n x : ℕ) → _≡_ {A = ℕ} (getD (replicate n 0) x 0) 0
-zeros-at zero x = refl
-zeros-at (suc n) zero = refl
-zeros-at (suc n) (suc x) = zeros-at n x
-
 pub zeros-ready : Ready (replicate 1025 0) (replicate 1025 0) (replicate 1025 0) (replicate 1025 0)
 zeros-ready = record {
-  unlabelled = record { labels-long = length-replicate {A = ℕ} 1025 0; order-long = length-replicate {A = ℕ} 1025 0; given-is = refl; label-of = zeros-at 1025; edge-of = λ j e. absurd (omega arith) };
+  unlabelled = record { labels-long = length-replicate {A = ℕ} 1025 0; order-long = length-replicate {A = ℕ} 1025 0; given-is = refl; label-of = λ x. at-zeros 1025 (suc x); edge-of = λ j e. absurd (omega arith) };
   empty = ring-empty;
 }
 

@@ -12,10 +12,10 @@ use Rattle.lists.proofs.Ranges.{card-most}
 use Rattle.words.specs.Order.{same}
 use Rattle.labelling.specs.Labelling.{wordOf}
 use Rattle.labelling.proofs.Rootings.{accepts-rerooted}
 use Rattle.labelling_rootings.specs.Among.{rootingsWith}
 use Rattle.labelling_rootings.proofs.Tried.{Tried, card-more}
-use Rattle.labelling_rootings.proofs.rootings_with.Statement.{statement}
-use Rattle.labelling_rootings.proofs.rootings_with.Tie as tie
+use Rattle.labelling_symmetries.proofs.rootings_with.Statement.{statement}
+use Rattle.labelling_symmetries.proofs.rootings_with.Tie as tie
 
 abbrev Inv-loop : tie.InvT-loop
 Inv-loop s0 s1 labels₀ order₀ next₀ prev₀ own cand₀ n found₀ x₀ labels order next prev cand found x = Tried s0 n labels order next prev cand₀ cand x × (found ≡ card x (λ y. same (wordOf s0 s1 y) own))

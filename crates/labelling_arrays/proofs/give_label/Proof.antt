@@ -1,9 +1,9 @@
 -- `give` meets its contract: the two stores are the law `holds-give`.
 use borrow.Author.Needs.{needs}
 use mathlib.Core.Path.{refl}
-use Rattle.labelling_events.proofs.Arrays.{holds-give}
-use Rattle.labelling_events.proofs.give_label.Statement.{statement}
-use Rattle.labelling_events.proofs.give_label.Tie as tie
+use Rattle.labelling_arrays.proofs.Arrays.{holds-give}
+use Rattle.labelling_arrays.proofs.give_label.Statement.{statement}
+use Rattle.labelling_arrays.proofs.give_label.Tie as tie
 
 add-label : tie.Need-add-label
 add-label c = search needs

@@ -1,9 +1,9 @@
 -- `isomorphic` meets its contract: isomorphic diagrams have one size, and equal words decide.
 use mathlib.Core.Path.{sym}
 use mathlib.Core.Bool.{true≢false}
-use Rattle.labelling_comparison.proofs.Comparing.{sizes-same, root-isomorphic, any-rooting-isomorphic}
-use Rattle.labelling_comparison.proofs.isomorphic.Statement.{statement}
-use Rattle.labelling_comparison.proofs.isomorphic.Tie as tie
+use Rattle.labelling_isomorphism.proofs.Decided.{sizes-same, root-isomorphic, any-rooting-isomorphic}
+use Rattle.labelling_isomorphism.proofs.isomorphic.Statement.{statement}
+use Rattle.labelling_isomorphism.proofs.isomorphic.Tie as tie
 
 returns : tie.Need-returns
 returns c = (λ e. absurd (true≢false (sym e)), λ i. absurd (c .if1 .taken (sizes-same (c .before .before .before .before .before .args .rooted) _ _ _ _ _ _ i)))

@@ -1,8 +1,8 @@
 -- `fork` meets its contract: three labels and two pushes, one after the other.
 use borrow.Author.Needs.{needs}
 use mathlib.Core.List.{_∷_}
-use Rattle.labelling_events.proofs.add_triple.Statement.{statement}
-use Rattle.labelling_events.proofs.add_triple.Tie as tie
+use Rattle.labelling_arrays.proofs.add_triple.Statement.{statement}
+use Rattle.labelling_arrays.proofs.add_triple.Tie as tie
 
 give-label-requires : tie.Need-give-label-requires
 give-label-requires c κs = search needs

@@ -3,8 +3,8 @@ use borrow.Author.Needs.{needs}
 use native.Mathlib.Omega.{arith}
 use Rattle.lists.proofs.Lists.{find-lt}
 use Rattle.pending_ring.proofs.Laws.{ring-few}
-use Rattle.labelling_events.proofs.join_pending.Statement.{statement}
-use Rattle.labelling_events.proofs.join_pending.Tie as tie
+use Rattle.labelling_arrays.proofs.join_pending.Statement.{statement}
+use Rattle.labelling_arrays.proofs.join_pending.Tie as tie
 
 depth-requires : tie.Need-depth-requires
 depth-requires c κs = search needs

@@ -1,8 +1,8 @@
 -- `follow` meets its contract: edge x stands at place x - 1.
 use borrow.Author.Needs.{needs}
 use Rattle.lists.proofs.Lists.{at-place}
-use Rattle.labelling_events.proofs.follow.Statement.{statement}
-use Rattle.labelling_events.proofs.follow.Tie as tie
+use Rattle.labelling_arrays.proofs.follow.Statement.{statement}
+use Rattle.labelling_arrays.proofs.follow.Tie as tie
 
 to-index-requires : tie.Need-to-index-requires
 to-index-requires c κs = search needs
