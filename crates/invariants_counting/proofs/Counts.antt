@@ -13,7 +13,7 @@ use Rattle.lists.specs.Ranges.{OneTo, card, maximum}
 use Rattle.lists.proofs.Tests.{same?, lt?}
 use Rattle.lists.proofs.Ranges.{card-most}
 use Rattle.invariants_cycles.specs.Cycles.{Permutation, SameCycle, leastOfCycle, cycles, period, longest}
-use Rattle.invariants_cycles.proofs.Cardinals.{top-over}
+use Rattle.invariants_cycles.proofs.Cardinals.{maximum-over}
 use Rattle.invariants_cycles.proofs.Cycles.{same-trans, same-sym, same-in, not-least, below-least}
 use Rattle.invariants_cycles.proofs.Carried.{period-same}
 use Rattle.invariants_counting.specs.Marks.{MarkedExactly, CycleMarked}
@@ -68,7 +68,7 @@ module _ {n : ℕ} {φ : ℕ → ℕ} {seen : List ℕ} {count most i : ℕ} (k 
         same-top =
             let h = k .largest in
             let a = period-same p (met .0) (suc i) met-in (met .2) in
-            let b = top-over i (period n φ) (met .0) (met .1) in
+            let b = maximum-over i (period n φ) (met .0) (met .1) in
             omega arith
 
         from : (x : ℕ) → Met φ (suc i) x → Met φ i x

@@ -85,14 +85,14 @@ card-le n t m u h into one-one =
 
 -- ---- maximum
 
-pub top-over : (n : ℕ) (t : ℕ → ℕ) (x : ℕ) → OneTo n x → t x ≤ maximum n t
-top-over zero t x e = absurd (omega arith)
-top-over (suc n) t x e = go (same? x (suc n)) (top-over n t x)
+pub maximum-over : (n : ℕ) (t : ℕ → ℕ) (x : ℕ) → OneTo n x → t x ≤ maximum n t
+maximum-over zero t x e = absurd (omega arith)
+maximum-over (suc n) t x e = go (same? x (suc n)) (maximum-over n t x)
   where
     go : (x ≡ suc n) ⊎ (x ≢ suc n) → (OneTo n x → t x ≤ maximum n t) → t x ≤ max (t (suc n)) (maximum n t)
     go (inl q) k = rw q (omega arith)
     go (inr q) k = let i = k (omega arith) in omega arith
 
-pub top-under : (n : ℕ) (t : ℕ → ℕ) (b : ℕ) → ((x : ℕ) → OneTo n x → t x ≤ b) → maximum n t ≤ b
-top-under zero t b k = omega arith
-top-under (suc n) t b k = let i = k (suc n) (omega arith) in let j = top-under n t b (λ x e. k x (omega arith)) in omega arith
+pub maximum-under : (n : ℕ) (t : ℕ → ℕ) (b : ℕ) → ((x : ℕ) → OneTo n x → t x ≤ b) → maximum n t ≤ b
+maximum-under zero t b k = omega arith
+maximum-under (suc n) t b k = let i = k (suc n) (omega arith) in let j = maximum-under n t b (λ x e. k x (omega arith)) in omega arith

@@ -8,7 +8,7 @@ use lib.Dec.{eqb}
 use Rattle.lists.specs.Ranges.{OneTo}
 use Rattle.lists.proofs.Tests.{eqb-eq, eqb-true}
 use Rattle.invariants_cycles.specs.Cycles.{Permutation, iterate, SameCycle, leastOfCycle, cycles, period, longest, fixedPoints}
-use Rattle.invariants_cycles.proofs.Cardinals.{card-le, top-over, top-under}
+use Rattle.invariants_cycles.proofs.Cardinals.{card-le, maximum-over, maximum-under}
 use Rattle.invariants_cycles.proofs.Cycles.{same-trans, same-sym, same-in, after-in, Period, period-only, period-is, lowest, lowest-same, lowest-least, least-below}
 
 pub record Carried (n : ℕ) (φ ψ h : ℕ → ℕ) : Type 0 where
@@ -46,7 +46,7 @@ module _ {n : ℕ} {φ ψ h : ℕ → ℕ} (p : Permutation n φ) (q : Permutati
 
   pub longest-carried : longest n φ ≤ longest n ψ
   unfolding longest
-  longest-carried = top-under n (period n φ) _ (λ x e. rw (period-carried x e) (top-over n (period n ψ) (h x) (c .into x e)))
+  longest-carried = maximum-under n (period n φ) _ (λ x e. rw (period-carried x e) (maximum-over n (period n ψ) (h x) (c .into x e)))
 
   pub cycles-carried : cycles n φ ≤ cycles n ψ
   unfolding cycles

@@ -8,7 +8,7 @@ use lib.ListN.{length, getD}
 use Rattle.lists.specs.Ranges.{OneTo}
 use Rattle.listing.specs.Listing.{count}
 use Rattle.listing_ranking.proofs.Answers.{at-length}
-use Rattle.run_steps.specs.declared.Run.{Run}
+use Rattle.run_answers.specs.declared.Run.{Run}
 use Rattle.run_steps.specs.Promises.{RunAt, RunFinished, runAfter}
 use Rattle.run_steps.proofs.Standing.{stands-size}
 use Rattle.run_blocks.specs.Promises.{RunAfterRows, ListPromise, ListMarkedPromise}

@@ -6,9 +6,9 @@ use Prim.Native.Nat.{ℕ, suc}
 use lib.ListN.{length, getD}
 use Rattle.listing.specs.Listing.{count}
 use Rattle.listing.specs.Position.{wordAt}
-use Rattle.run_steps.specs.declared.Run.{Run}
-use Rattle.run_steps.specs.declared.Stepping.{Stepping}
-use Rattle.run_steps.specs.declared.Stepping.the-variants.{Length, End, Refused}
+use Rattle.run_answers.specs.declared.Run.{Run}
+use Rattle.run_answers.specs.declared.Stepping.{Stepping}
+use Rattle.run_answers.specs.declared.Stepping.the-variants.{Length, End, Refused}
 use Rattle.run_steps.specs.Promises.{RunAt, RunFinished, runAfter, finished, StepPromise}
 use Rattle.run_steps.proofs.Standing.{stands-size}
 use Rattle.kaldvemir_layout_run.specs.Layout.{run-of, run-numbers}

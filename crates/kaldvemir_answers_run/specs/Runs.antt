@@ -5,9 +5,9 @@
 use mathlib.Core.List.{List, _∷_}
 use Prim.Native.Nat.{ℕ, _≤_}
 use lib.ListN.{getD}
-use Rattle.run_steps.specs.declared.Run.{Run}
-use Rattle.run_steps.specs.declared.Stepping.{Stepping}
-use Rattle.run_steps.specs.declared.Stepping.the-variants as stepping
+use Rattle.run_answers.specs.declared.Run.{Run}
+use Rattle.run_answers.specs.declared.Stepping.{Stepping}
+use Rattle.run_answers.specs.declared.Stepping.the-variants as stepping
 use Rattle.run_blocks.specs.declared.Listing.{Listing}
 use Rattle.run_blocks.specs.declared.Listing.the-variants as listing
 

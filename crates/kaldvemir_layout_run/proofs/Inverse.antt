@@ -3,7 +3,7 @@ use mathlib.Core.Path.{_≡_}
 use native.Mathlib.Omega.{arith}
 use lib.ListN.{length}
 use lib.Seq.{take-all}
-use Rattle.run_steps.specs.declared.Run.{Run}
+use Rattle.run_answers.specs.declared.Run.{Run}
 use Rattle.kaldvemir_layout_run.specs.Layout.{run-numbers, run-of}
 use Rattle.kaldvemir_layout_run.specs.Inverse.{RunLayoutInverse}
 use Rattle.kaldvemir_layout_run.proofs.Rows.{run-again}

@@ -6,7 +6,7 @@ use mathlib.Core.Path.{_≡_}
 use mathlib.Core.List.{List}
 use Prim.Native.Nat.{ℕ}
 use lib.ListN.{length}
-use Rattle.run_steps.specs.declared.Run.{Run}
+use Rattle.run_answers.specs.declared.Run.{Run}
 use Rattle.kaldvemir_layout_run.specs.Layout.{run-numbers, run-of}
 
 pub record RunLayoutInverse : Type 0 where

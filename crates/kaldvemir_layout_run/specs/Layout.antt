@@ -6,9 +6,9 @@
 use mathlib.Core.List.{List, _∷_}
 use Prim.Native.Nat.{ℕ}
 use lib.ListN.{getD, take, drop}
-use Rattle.run_steps.specs.declared.Run.{Run}
-use Rattle.run_steps.specs.declared.Beginning.{Beginning}
-use Rattle.run_steps.specs.declared.Beginning.the-variants.{Begun, Refused}
+use Rattle.run_answers.specs.declared.Run.{Run}
+use Rattle.run_answers.specs.declared.Beginning.{Beginning}
+use Rattle.run_answers.specs.declared.Beginning.the-variants.{Begun, Refused}
 
 abbrev pub run-numbers : Run → List ℕ
 run-numbers r = r .size ∷ r .stage ∷ r .length ∷ r .items

@@ -1,2 +1,2 @@
--- The laws of the arrays (crate labelling_events).
-pub use Rattle.labelling_events.proofs.Arrays.{zeros-ready}
+-- The laws of the arrays (crate labelling_arrays).
+pub use Rattle.labelling_arrays.proofs.Arrays.{zeros-ready}

@@ -1,7 +1,7 @@
 // A whole labelling written out: the word, and the lists seen through the labels.
+use labelling_arrays::follow;
 use labelling_events::begin;
 use labelling_events::event;
-use labelling_events::follow;
 use lists::to_index;
 ghost use mathlib.Core.Path.{_≡_};
 ghost use mathlib.Core.List.{List, _++_, []};

@@ -2,13 +2,10 @@
 --
 --   Askable question s0 s1 r w            what a question may rely on: whether w is the least is asked of the diagram's own word
 --   Answered question s0 s1 r w a         a answers the question; yes is 1
---   IsomorphicBy rooted s0 s1 r t0 t1 q   isomorphic, with roots or without
 use mathlib.Core.Path.{_≡_}
 use mathlib.Core.Logic.{_↔_}
-use mathlib.Core.Bool.{Bool, true, false}
 use mathlib.Core.List.{List}
 use Prim.Native.Nat.{ℕ}
-use Rattle.diagrams.specs.Isomorphism.{Isomorphic, RootedIsomorphic}
 use Rattle.labelling.specs.Labelling.{wordOf}
 use Rattle.labelling_rootings.specs.Among.{NoneBefore, SomeRooting, rootingsWith}
 use Rattle.labelling_comparison.specs.declared.Question.{Question}
@@ -25,7 +22,3 @@ Answered Root s0 s1 r w a = (a ≡ 1) ↔ (wordOf s0 s1 r ≡ w)
 Answered Any s0 s1 r w a = (a ≡ 1) ↔ SomeRooting s0 s1 w
 Answered Number s0 s1 r w a = a ≡ rootingsWith s0 s1 w
 Answered Least s0 s1 r w a = (a ≡ 1) ↔ NoneBefore s0 s1 w
-
-abbrev pub IsomorphicBy : Bool → List ℕ → List ℕ → ℕ → List ℕ → List ℕ → ℕ → Type 0
-IsomorphicBy true s0 s1 r t0 t1 q = RootedIsomorphic s0 s1 r t0 t1 q
-IsomorphicBy false s0 s1 r t0 t1 q = Isomorphic s0 s1 t0 t1

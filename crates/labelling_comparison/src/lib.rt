@@ -3,9 +3,9 @@
 use labelling_code::tracing::trace;
 use labelling_code::writing::own_word;
 use labelling_rootings::none_before;
-use labelling_rootings::rootings_with;
 use labelling_rootings::same;
 use labelling_rootings::some_rooting;
+use labelling_symmetries::rootings_with;
 ghost use mathlib.Core.Path.{_≡_};
 ghost use mathlib.Core.Logic.{_↔_};
 ghost use mathlib.Core.Bool.{true};
@@ -14,7 +14,7 @@ ghost use lib.ListN.{length};
 ghost use Rattle.diagrams.specs.Check.{Accepts};
 ghost use Rattle.labelling.specs.Labelling.{wordOf};
 ghost use Rattle.labelling_code.specs.Scratch.{Ready};
-ghost use Rattle.labelling_comparison.specs.Questions.{Askable, Answered, IsomorphicBy};
+ghost use Rattle.labelling_comparison.specs.Questions.{Askable, Answered};
 
 // What is asked of a rooted diagram, given a word: whether its own word is the given one; whether some rooting's word is; how many
 // rootings' words are; whether no rooting's word comes before it.
@@ -122,27 +122,4 @@ pub fn ask(
         &mut cand,
         question,
     )
-}
-
-// Whether two accepted diagrams are isomorphic, with their roots or without: whether the second's word is the first's, or that of some
-// rooting of the first.
-pub fn isomorphic(
-    s0: &[u16],
-    s1: &[u16],
-    r: u64,
-    t0: &[u16],
-    t1: &[u16],
-    q: u64,
-    rooted: bool,
-) -> bool
-    requires { ⌜ Accepts (now s0) (now s1) r × Accepts (now t0) (now t1) q ⌝ }
-    ensures { λ b. ⌜ (b ≡ true) ↔ IsomorphicBy rooted (now (s0 .entry)) (now (s1 .entry)) r (now (t0 .entry)) (now (t1 .entry)) q ⌝ }
-{
-    if s0.len() != t0.len() {
-        return false;
-    }
-    if rooted {
-        return ask(s0, s1, r, t0, t1, q, Question::Root) == 1;
-    }
-    ask(s0, s1, r, t0, t1, q, Question::Any) == 1
 }

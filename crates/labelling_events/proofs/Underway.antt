@@ -18,7 +18,7 @@ use Rattle.labelling.proofs.Labels.{inv-U, inv-T}
 use Rattle.labelling.proofs.Rootings.{accepts-rerooted}
 use Rattle.labelling.proofs.Moves.{move-W, move-J, move-B, move-F}
 use Rattle.labelling_events.specs.Scratch.{LabelsHeld, Underway, firstEventOf, EventDone}
-use Rattle.labelling_events.proofs.Arrays.{lab-none, lab-zero}
+use Rattle.labelling_arrays.proofs.Arrays.{lab-none, lab-zero}
 
 -- ---- accepted diagrams
 

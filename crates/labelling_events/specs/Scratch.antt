@@ -2,39 +2,22 @@
 -- edges o, the last labelled first, and the pending edges st, the top first. The arrays are la (labels, by edge), od (order, the edge of
 -- each label), and nx and pv (the links of the pending ring, which holds edges).
 --
---   LabelsHeld la od given o                   the labels of the edges o, of which there are `given`
---   SomeLabelsHeld la od given                 .. of some edges, all different
 --   Underway s0 s1 la od nx pv given o st      the labelling of the diagram s0, s1 stands at o and st, and the arrays hold it
 --   firstEventOf s0 root                       the labelling's first event
 --   EventDone s0 s1 la od nx pv v e            the arrays hold what the event v left; e is its item and the number of labels given
---   Ready la od nx pv                          no edge is labelled and none pending: fit for the next labelling
 --   WordWritten s0 s1 root la od nx pv a b m   a whole labelling: its word, of length m, is written into the list a, now b, and its labels are held
+-- and from labelling_arrays: LabelsHeld, SomeLabelsHeld, Ready.
 use mathlib.Core.Path.{_≡_}
 use mathlib.Core.List.{List, [], _++_}
-use Prim.Native.Nat.{ℕ, suc, _≤_, _<_}
+use Prim.Native.Nat.{ℕ, suc, _≤_}
 use lib.Dec.{eqb}
-use lib.ListN.{length, getD, drop}
-use Rattle.lists.specs.Lists.{at, Has, Distinct}
-use Rattle.lists.specs.Ranges.{OneTo}
+use lib.ListN.{length, drop}
+use Rattle.lists.specs.Lists.{at}
 use Rattle.diagrams.specs.Check.{Accepts}
 use Rattle.pending_ring.specs.Ring.{Ring}
-use Rattle.labelling.specs.Labelling.{Event, LabellingInvariant, firstEvent, labelOf, edgeOf, labels, wordOf}
+use Rattle.labelling.specs.Labelling.{Event, LabellingInvariant, firstEvent, labels, wordOf}
+pub use Rattle.labelling_arrays.specs.Labels.{LabelsHeld, SomeLabelsHeld, Ready}
 use Rattle.labelling_events.specs.declared.EventItem.{EventItem}
-
--- an edge without a label has 0; what `order` holds past the labels given does not count
-pub record LabelsHeld (la od : List ℕ) (given : ℕ) (o : List ℕ) : Type 0 where
-  pub labels-long : length la ≡ 1025
-  pub order-long : length od ≡ 1025
-  pub given-is : given ≡ length o
-  pub label-of : (x : ℕ) → getD la x 0 ≡ labelOf o x
-  pub edge-of : (j : ℕ) → OneTo (length o) j → getD od j 0 ≡ edgeOf o j
-
-pub record SomeLabelsHeld (la od : List ℕ) (given : ℕ) : Type 0 where
-  pub edges : List ℕ
-  pub holds : LabelsHeld la od given edges
-  pub distinct : Distinct edges
-  pub small : (x : ℕ) → Has x edges → x < 1025
-  pub room : given ≤ 1024
 
 -- a diagram that is accepted with any root is accepted with root 1
 pub record Underway (s0 s1 la od nx pv : List ℕ) (given : ℕ) (o st : List ℕ) : Type 0 where
@@ -50,10 +33,6 @@ firstEventOf s0 root = firstEvent (eqb (at s0 root) root) root (at s0 root) (at 
 pub record EventDone (s0 s1 la od nx pv : List ℕ) (v : Event) (e : EventItem) : Type 0 where
   pub item-is : e .item ≡ v .item
   pub leaves : Underway s0 s1 la od nx pv (e .given) (v .marked) (v .stack)
-
-pub record Ready (la od nx pv : List ℕ) : Type 0 where
-  pub unlabelled : LabelsHeld la od 0 []
-  pub empty : Ring nx pv []
 
 -- the word stands before what the list held
 pub record WordWritten (s0 s1 : List ℕ) (root : ℕ) (la od nx pv a b : List ℕ) (m : ℕ) : Type 0 where

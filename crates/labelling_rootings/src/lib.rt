@@ -13,7 +13,7 @@ ghost use Rattle.words.specs.Order.{precedes, same};
 ghost use Rattle.diagrams.specs.Check.{Accepts};
 ghost use Rattle.labelling.specs.Labelling.{wordOf};
 ghost use Rattle.labelling_code.specs.Scratch.{Ready};
-ghost use Rattle.labelling_rootings.specs.Among.{NoneBefore, SomeRooting, rootingsWith};
+ghost use Rattle.labelling_rootings.specs.Among.{NoneBefore, SomeRooting};
 
 // Whether two words are the same.
 pub fn same(a: &[u16], b: &[u16]) -> bool
@@ -116,34 +116,4 @@ pub fn some_rooting(
         }
     }
     false
-}
-
-// How many rootings have the word own.
-pub fn rootings_with(
-    s0: &[u16],
-    s1: &[u16],
-    labels: &mut [u16; 1025],
-    order: &mut [u16; 1025],
-    next: &mut [u16; 1025],
-    prev: &mut [u16; 1025],
-    own: &[u16],
-    cand: &mut [u16],
-) -> u16
-    requires { ⌜ Accepts (now s0) (now s1) 1 ⌝ }
-    requires { ⌜ Ready (now labels) (now order) (now next) (now prev) ⌝ }
-    requires { ⌜ length (now s0) < length (now cand) ⌝ }
-    ensures number { λ r. ⌜ r ≡ rootingsWith (now (s0 .entry)) (now (s1 .entry)) (now (own .entry)) ⌝ }
-    ensures ready { λ _. ⌜ Ready (now (labels .exit)) (now (order .exit)) (now (next .exit)) (now (prev .exit)) ⌝ }
-{
-    let n = s0.len();
-    let mut found: u16 = 0;
-    let mut x: usize = 0;
-    while x < n {
-        x += 1;
-        let k = trace(s0, s1, labels, order, next, prev, x as u16, own, cand);
-        if same(&cand[..k], own) {
-            found += 1;
-        }
-    }
-    found
 }

@@ -5,8 +5,8 @@ use Prim.Native.Nat.{ℕ, _+_, _≤_}
 use native.Mathlib.Omega.{arith}
 use lib.ListN.{length, drop}
 use Rattle.listing.specs.Listing.{count}
-use Rattle.run_steps.specs.declared.Run.{Run}
-use Rattle.run_steps.proofs.Standing.{stands-size}
+use Rattle.run_answers.specs.declared.Run.{Run}
+use Rattle.run_validity.proofs.Standing.{stands-size}
 use Rattle.run_row.specs.Rows.{blacks, whites, flatWords, lengths}
 use Rattle.run_marks.specs.Marks.{BlockHeld, MarksWritten}
 use Rattle.run_blocks.specs.Promises.{RunAfterRows, RowsGiven, MarkedRowsGiven, ListPromise, ListMarkedPromise}

@@ -12,8 +12,8 @@ use mathlib.Core.Logic.{_⊎_}
 use mathlib.Core.List.{List}
 use Prim.Native.Nat.{ℕ, _≤_, _<_}
 use lib.ListN.{length}
-use Rattle.run_steps.specs.declared.Run.{Run}
-use Rattle.run_steps.specs.Promises.{RunAt, RunFinished}
+use Rattle.run_answers.specs.declared.Run.{Run}
+use Rattle.run_answers.specs.Promises.{RunAt, RunFinished}
 use Rattle.run_blocks.specs.declared.Listing.{Listing}
 use Rattle.run_blocks.specs.declared.Listing.the-variants as listing
 use Rattle.run_blocks.specs.Answers.{list-number, list-rows}

@@ -2,10 +2,10 @@
 // tested once for the whole block. Refuses 34, a run that is neither fresh, nor at a diagram, nor finished; a finished run answers "no rows";
 // then 9, an output list that is short. Fewer rows than asked for: the list ended, and the run is finished. With marks, the keep mark of each
 // diagram comes too.
+use run_answers::Run;
 use run_marks::mark_rows;
 use run_rows::rows_of;
-use run_steps::Run;
-use run_steps::sound;
+use run_validity::valid;
 ghost use mathlib.Core.Path.{_≡_};
 ghost use mathlib.Core.Logic.{_⊎_};
 ghost use mathlib.Core.Bool.{true, false};
@@ -61,7 +61,7 @@ pub fn list(
     ensures { λ r. ⌜ ListPromise run rows (now (s0 .entry)) (now (s1 .entry)) (now (words .entry)) (now (lengths .entry))
         (r .run) (now (s0 .exit)) (now (s1 .exit)) (now (words .exit)) (now (lengths .exit)) (r .answer) ⌝ }
 {
-    if !sound(run) {
+    if !valid(run) {
         return Listed {
             answer: Listing::Refused(34),
             run,
@@ -107,7 +107,7 @@ pub fn list_marked(
     ensures { λ r. ⌜ ListMarkedPromise run rows (now (s0 .entry)) (now (s1 .entry)) (now (words .entry)) (now (lengths .entry)) (now (marks .entry))
         (r .run) (now (s0 .exit)) (now (s1 .exit)) (now (words .exit)) (now (lengths .exit)) (now (marks .exit)) (r .answer) ⌝ }
 {
-    if !sound(run) {
+    if !valid(run) {
         return Listed {
             answer: Listing::Refused(34),
             run,

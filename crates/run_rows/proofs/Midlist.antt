@@ -23,10 +23,10 @@ use Rattle.listing_successor.specs.Promises.{Agree, SuccessorPromise}
 use Rattle.listing_successor.proofs.Padding.{held-by}
 use Rattle.listing_successor.proofs.Places.{word-at, following-at}
 use Rattle.words_respelling.specs.SpelledSoFar.{ScratchLengths, SpelledSoFar, SharedBeginning}
-use Rattle.run_steps.specs.declared.Run.{Run}
-use Rattle.run_steps.specs.Promises.{finished, RunAt}
-use Rattle.run_steps.proofs.Standing.{ended, goes-on}
-use Rattle.run_steps.proofs.Giving.{held-length, held-within, held-word, held-at}
+use Rattle.run_answers.specs.declared.Run.{Run}
+use Rattle.run_answers.specs.Promises.{finished, RunAt}
+use Rattle.run_validity.proofs.Standing.{none-after, some-after}
+use Rattle.run_next_diagram.proofs.Giving.{held-length, held-within, held-word, held-at}
 use Rattle.run_row.specs.Rows.{blacks, whites, flatWords, lengths}
 use Rattle.run_row.specs.Row.{RowRoom, RowWritten}
 use Rattle.run_rows.specs.Promises.{runOf, ShortRows, Block, RowsGiven}
@@ -153,13 +153,13 @@ module _ {run : Run} {rows : ℕ} {a0 a1 aw al : List ℕ} {stage : ℕ} {items 
       place = p;
       stands = M .stands;
       roomy = M .roomy;
-      leaves = inr (more, ended n (p + i) (M .come .within) (sym (ap (λ (h : Held). h .length) next-held) ∙ z), refl);
+      leaves = inr (more, none-after n (p + i) (M .come .within) (sym (ap (λ (h : Held). h .length) next-held) ∙ z), refl);
       written = M .written;
     }
 
     module _ (z : next .length ≢ 0) where
       inside : p + i < count n
-      inside = goes-on n (p + i) (M .come .within) (λ y. z (ap (λ (h : Held). h .length) next-held ∙ y))
+      inside = some-after n (p + i) (M .come .within) (λ y. z (ap (λ (h : Held). h .length) next-held ∙ y))
 
       word : Word n w
       word = word-at n (p + i) inside

@@ -13,8 +13,8 @@ use Prim.Native.Nat.{ℕ, suc, _+_, _*_, _≤_, _<_}
 use lib.ListN.{length}
 use Rattle.lists.specs.Overwriting.{overwrite}
 use Rattle.listing.specs.Listing.{count}
-use Rattle.run_steps.specs.declared.Run.{Run}
-use Rattle.run_steps.specs.Promises.{runAfter, finished, RunAt}
+use Rattle.run_answers.specs.declared.Run.{Run}
+use Rattle.run_answers.specs.Promises.{runAfter, finished, RunAt}
 use Rattle.run_row.specs.Rows.{blacks, whites, flatWords, lengths}
 
 abbrev pub runOf : ℕ → ℕ → ℕ → List ℕ → Run

@@ -1,13 +1,13 @@
 // The rows of a block: the next diagrams of a run, as many as are asked for, one after another, as that many steps would give them.
 use listing_successor::successor;
+use run_answers::Run;
 use run_row::spell_row;
-use run_steps::Run;
 use words_spelling::LabelCounts;
 ghost use mathlib.Core.Path.{_≡_};
 ghost use mathlib.Core.Logic.{_≢_, _⊎_};
 ghost use Prim.Native.Nat.{ℕ};
 ghost use Rattle.words_respelling.specs.SpelledSoFar.{ScratchLengths};
-ghost use Rattle.run_steps.specs.Promises.{RunAt};
+ghost use Rattle.run_answers.specs.Promises.{RunAt};
 ghost use Rattle.run_rows.specs.Promises.{runOf, ShortRows, RowsGiven};
 
 // How many rows were written, and the run after them.

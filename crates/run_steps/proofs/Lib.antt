@@ -1,4 +1,1 @@
-pub mod Blanks
-pub mod Soundness
-pub mod Giving
 pub mod Standing

@@ -15,9 +15,9 @@ use Rattle.listing.specs.Listing.{listing, count}
 use Rattle.listing.specs.Position.{wordAt}
 use Rattle.listing.specs.Diagrams.{diagramAt}
 use Rattle.listing_plain_walk.specs.Promises.{concatenated}
-use Rattle.run_steps.specs.declared.Run.{Run}
-use Rattle.run_steps.specs.declared.Stepping.{Stepping}
-use Rattle.run_steps.specs.declared.Stepping.the-variants.{Length, End, Refused}
+use Rattle.run_answers.specs.declared.Run.{Run}
+use Rattle.run_answers.specs.declared.Stepping.{Stepping}
+use Rattle.run_answers.specs.declared.Stepping.the-variants.{Length, End, Refused}
 use Rattle.run_steps.specs.Promises.{runAfter, finished, RunAt, RunFinished, RefusedStep}
 use Rattle.run_steps.proofs.Standing.{stands-size}
 use Rattle.run_blocks.specs.declared.Listing.the-variants as listing

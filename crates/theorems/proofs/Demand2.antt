@@ -32,9 +32,9 @@ use Rattle.labelling.specs.Rootings.{leastWord, Kept, symmetries}
 use Rattle.labelling.proofs.Ended.{label-ends}
 use Rattle.labelling.proofs.OfLists.{labels-carry, characteristic-accepted, characteristic-size, characteristic-isomorphic, word-spelled, word-of-size, isomorphic-words, words-isomorphic, words-results, results-isomorphic, spelled-wordOf, spelled-accepted, spelled-characteristic}
 use Rattle.labelling.proofs.Rootings.{accepts-rerooted, LeastOf, least-word, kept-least, least-kept, rooting-isomorphic, isomorphic-rooting, isomorphic-least, least-isomorphic}
-use Rattle.labelling_operations.specs.declared.Comparison.{Comparison}
-use Rattle.labelling_operations.specs.declared.Comparison.the-variants as comparison
-use Rattle.labelling_operations.specs.declared.Symmetry.the-variants as symmetry
+use Rattle.labelling_answers.specs.declared.Comparison.{Comparison}
+use Rattle.labelling_answers.specs.declared.Comparison.the-variants as comparison
+use Rattle.labelling_answers.specs.declared.Symmetry.the-variants as symmetry
 use Rattle.labelling_operations.specs.Promises.{RefusedSide, CompareRootedPromise, CompareUnrootedPromise, SymmetriesPromise}
 use Rattle.listing.specs.Listing.{listing, count}
 use Rattle.listing.specs.Position.{wordAt, position}

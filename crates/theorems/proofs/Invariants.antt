@@ -15,7 +15,7 @@ use Rattle.diagrams.specs.Isomorphism.{Isomorphic}
 use Rattle.diagrams.proofs.Checks.{accepts-diagram}
 use Rattle.invariants_cycles.specs.Cycles as spec
 use Rattle.invariants_cycles.specs.Cycles.{Permutation, SameCycle, leastOfCycle, period, cycles, longest, fixedPoints, cuspMap}
-use Rattle.invariants_cycles.proofs.Cardinals.{top-over}
+use Rattle.invariants_cycles.proofs.Cardinals.{maximum-over}
 use Rattle.invariants_cycles.proofs.Cycles as laws
 use Rattle.invariants_cycles.proofs.InvariantsIsomorphic.{invariants-isomorphic}
 use Rattle.invariants.specs.declared.Numbers.{Numbers}
@@ -110,7 +110,7 @@ module _ {n : ℕ} {φ : ℕ → ℕ} (p : Permutation n φ) where
 
   longest-most : (x : ℕ) → OneTo n x → period n φ x ≤ longest n φ
   unfolding longest
-  longest-most x e = top-over n (period n φ) x e
+  longest-most x e = maximum-over n (period n φ) x e
 
   cycles-of : CyclesHold n φ
   cycles-of = record {

@@ -18,8 +18,8 @@ use Rattle.listing.specs.Listing.{count}
 use Rattle.listing.specs.Position.{position}
 use Rattle.listing.specs.Diagrams.{diagramAt}
 use Rattle.listing.proofs.InPlace.{at-accepted, position-diagram}
-use Rattle.labelling_operations.specs.declared.KeepMark.{KeepMark}
-use Rattle.labelling_operations.specs.declared.KeepMark.the-variants.{Yes, No, Refused}
+use Rattle.labelling_answers.specs.declared.KeepMark.{KeepMark}
+use Rattle.labelling_answers.specs.declared.KeepMark.the-variants.{Yes, No, Refused}
 use Rattle.labelling_operations.specs.Promises.{KeptPromise}
 use Rattle.theorems.specs.Demand2.{KeptOnce}
 use Rattle.theorems.specs.KeepMark.{KeptAnswers, AtPosition, MarkedOnce, KeepMarkHolds}

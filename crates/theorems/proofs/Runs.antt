@@ -8,7 +8,7 @@ use lib.Seq.{take-at}
 use Rattle.listing.specs.Listing.{count}
 use Rattle.listing.specs.Position.{wordAt}
 use Rattle.listing.proofs.Positions.{at-once}
-use Rattle.run_steps.specs.declared.Run.{Run}
+use Rattle.run_answers.specs.declared.Run.{Run}
 use Rattle.run_steps.specs.Promises.{finished, runAfter, RunAt, RunFinished}
 
 front : (u v x y : List ℕ) → length u ≡ length v → u ++ x ≡ v ++ y → u ≡ v

@@ -19,9 +19,9 @@ use Rattle.listing.specs.Diagrams.{diagramOf, diagramAt}
 use Rattle.listing.proofs.Listing.{listing-sorted}
 use Rattle.listing.proofs.Positions.{at-once, position-at}
 use Rattle.listing_successor.proofs.Places.{word-at}
-use Rattle.run_steps.specs.declared.Run.{Run}
-use Rattle.run_steps.specs.declared.Stepping.{Stepping}
-use Rattle.run_steps.specs.declared.Stepping.the-variants.{Length, End, Refused}
+use Rattle.run_answers.specs.declared.Run.{Run}
+use Rattle.run_answers.specs.declared.Stepping.{Stepping}
+use Rattle.run_answers.specs.declared.Stepping.the-variants.{Length, End, Refused}
 use Rattle.run_steps.specs.Promises.{fresh, finished, runAfter, RunAt, RunFinished, StepPromise}
 use Rattle.run_row.proofs.Blocks.{black-length, white-length}
 use Rattle.theorems.specs.FirstList.{InPlace}

@@ -24,9 +24,9 @@ use Rattle.words.specs.Outputs.{overwrite}
 use Rattle.listing.specs.Listing.{count}
 use Rattle.listing_plain_walk.specs.declared.Walked.the-variants.{Numbers}
 use Rattle.listing_plain_walk.specs.Promises.{concatenated, PlainWalkPromise}
-use Rattle.run_steps.specs.declared.Run.{Run}
-use Rattle.run_steps.specs.declared.Beginning.the-variants.{Begun}
-use Rattle.run_steps.specs.declared.Stepping.the-variants as stepping
+use Rattle.run_answers.specs.declared.Run.{Run}
+use Rattle.run_answers.specs.declared.Beginning.the-variants.{Begun}
+use Rattle.run_answers.specs.declared.Stepping.the-variants as stepping
 use Rattle.run_steps.specs.Promises.{BeginPromise}
 use Rattle.run_blocks.specs.declared.Listing.{Listing}
 use Rattle.run_blocks.specs.declared.Listing.the-variants as listing

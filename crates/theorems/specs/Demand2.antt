@@ -33,10 +33,10 @@ use Rattle.words_reading.specs.declared.Reading.the-variants.{Size}
 use Rattle.words_reading.specs.Read.{read, built, readAnswer, ReadPromise}
 use Rattle.labelling.specs.Labelling.{label, labelOf, labels, wordOf, characteristic}
 use Rattle.labelling.specs.Rootings.{leastWord, Kept}
-use Rattle.labelling_operations.specs.declared.Relabelling.the-variants as relabelling
-use Rattle.labelling_operations.specs.declared.Comparison.{Comparison}
-use Rattle.labelling_operations.specs.declared.Comparison.the-variants as comparison
-use Rattle.labelling_operations.specs.declared.Symmetry.the-variants as symmetry
+use Rattle.labelling_answers.specs.declared.Relabelling.the-variants as relabelling
+use Rattle.labelling_answers.specs.declared.Comparison.{Comparison}
+use Rattle.labelling_answers.specs.declared.Comparison.the-variants as comparison
+use Rattle.labelling_answers.specs.declared.Symmetry.the-variants as symmetry
 use Rattle.labelling_operations.specs.Promises.{RelabelPromise, CompareRootedPromise, CompareUnrootedPromise, SymmetriesPromise}
 use Rattle.listing.specs.Listing.{listing}
 use Rattle.listing_ranking.specs.declared.Total.the-variants as total

@@ -21,10 +21,10 @@ use Rattle.words.specs.declared.Lettered.{Lettered}
 use Rattle.words.specs.Letters.{LettersPromise}
 use Rattle.words_reading.specs.declared.Reading.{Reading}
 use Rattle.words_reading.specs.Read.{readAnswer, ReadPromise}
-use Rattle.labelling_operations.specs.declared.Relabelling.{Relabelling}
-use Rattle.labelling_operations.specs.declared.Comparison.{Comparison}
-use Rattle.labelling_operations.specs.declared.Symmetry.{Symmetry}
-use Rattle.labelling_operations.specs.declared.KeepMark.{KeepMark}
+use Rattle.labelling_answers.specs.declared.Relabelling.{Relabelling}
+use Rattle.labelling_answers.specs.declared.Comparison.{Comparison}
+use Rattle.labelling_answers.specs.declared.Symmetry.{Symmetry}
+use Rattle.labelling_answers.specs.declared.KeepMark.{KeepMark}
 use Rattle.labelling_operations.specs.Promises.{RelabelPromise, CharacteristicPromise, CompareRootedPromise, CompareUnrootedPromise, SymmetriesPromise, KeptPromise}
 use Rattle.invariants.specs.declared.Measured.{Measured}
 use Rattle.invariants.specs.Promises.{InvariantsPromise}
@@ -34,9 +34,9 @@ use Rattle.listing_ranking.specs.declared.Place.{Place}
 use Rattle.listing_ranking.specs.Promises.{CountPromise, DiagramAtPromise, PositionPromise}
 use Rattle.listing_plain_walk.specs.declared.Walked.{Walked}
 use Rattle.listing_plain_walk.specs.Promises.{PlainWalkPromise}
-use Rattle.run_steps.specs.declared.Run.{Run}
-use Rattle.run_steps.specs.declared.Beginning.{Beginning}
-use Rattle.run_steps.specs.declared.Stepping.{Stepping}
+use Rattle.run_answers.specs.declared.Run.{Run}
+use Rattle.run_answers.specs.declared.Beginning.{Beginning}
+use Rattle.run_answers.specs.declared.Stepping.{Stepping}
 use Rattle.run_steps.specs.Promises.{BeginPromise, StepPromise}
 use Rattle.run_blocks.specs.declared.Listing.{Listing}
 use Rattle.run_blocks.specs.Promises.{ListPromise, ListMarkedPromise}

@@ -15,8 +15,8 @@ use Rattle.diagrams.specs.Check.{Accepts}
 use Rattle.diagrams.specs.Isomorphism.{Isomorphic}
 use Rattle.listing.specs.Listing.{count}
 use Rattle.listing.specs.Diagrams.{diagramAt}
-use Rattle.labelling_operations.specs.declared.KeepMark.{KeepMark}
-use Rattle.labelling_operations.specs.declared.KeepMark.the-variants.{Yes, No}
+use Rattle.labelling_answers.specs.declared.KeepMark.{KeepMark}
+use Rattle.labelling_answers.specs.declared.KeepMark.the-variants.{Yes, No}
 use Rattle.labelling_operations.specs.Promises.{KeptPromise}
 
 abbrev pub KeptAnswers : ℕ → ℕ → KeepMark → Type 0

@@ -30,10 +30,10 @@ use Rattle.words.specs.Outputs.{Written, Untouched}
 use Rattle.listing.specs.Listing.{listing, count, Sorted}
 use Rattle.listing.specs.Position.{wordAt}
 use Rattle.listing.specs.Diagrams.{diagramOf, diagramAt}
-use Rattle.run_steps.specs.declared.Run.{Run}
-use Rattle.run_steps.specs.declared.Beginning.the-variants.{Begun}
-use Rattle.run_steps.specs.declared.Stepping.{Stepping}
-use Rattle.run_steps.specs.declared.Stepping.the-variants.{Length, End, Refused}
+use Rattle.run_answers.specs.declared.Run.{Run}
+use Rattle.run_answers.specs.declared.Beginning.the-variants.{Begun}
+use Rattle.run_answers.specs.declared.Stepping.{Stepping}
+use Rattle.run_answers.specs.declared.Stepping.the-variants.{Length, End, Refused}
 use Rattle.run_steps.specs.Promises.{finished, BeginPromise, StepPromise}
 use Rattle.theorems.specs.FirstList.{InPlace}
 

@@ -5,7 +5,7 @@ use Prim.Native.Nat.{_≤_}
 use native.Mathlib.Omega.{arith}
 use lib.ListN.{length}
 use lib.Seq.{length-take-le}
-use Rattle.labelling_events.proofs.Arrays.{zeros-ready}
+use Rattle.labelling_arrays.proofs.Arrays.{zeros-ready}
 use Rattle.labelling_comparison.proofs.ask.Statement.{statement}
 use Rattle.labelling_comparison.proofs.ask.Tie as tie
 

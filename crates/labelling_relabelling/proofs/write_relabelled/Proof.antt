@@ -4,7 +4,7 @@ use denote.Ref.{now}
 use Prim.Native.Nat.{suc, _≤_}
 use lib.ListN.{length}
 use Rattle.words.proofs.Outputs.{long-enough}
-use Rattle.labelling_events.proofs.Arrays.{zeros-ready}
+use Rattle.labelling_arrays.proofs.Arrays.{zeros-ready}
 use Rattle.labelling_code.proofs.Sofar.{labels-edges}
 use Rattle.labelling_relabelling.proofs.Written.{held-white, relabel-written}
 use Rattle.labelling_relabelling.proofs.write_relabelled.Statement.{statement}

@@ -3,40 +3,40 @@ use borrow.Author.Needs.{needs}
 use mathlib.Core.Path.{refl}
 use mathlib.Core.Logic.{inl, inr}
 use borrow.Author.Tests.{not-true, not-false}
-use Rattle.run_steps.specs.Sound.{SoundRun}
+use Rattle.run_validity.specs.Valid.{ValidRun}
 use Rattle.run_blocks.proofs.Refusals.{same-lists, stands-nowhere, is-over, stands-at}
 use Rattle.run_blocks.proofs.list.Statement.{statement}
 use Rattle.run_blocks.proofs.list.Tie as tie
 
--- past the first test the run is sound
-is-sound : (c : tie.Else1) → SoundRun (c .before .before .before .before .before .before .args .run)
-is-sound c = c .before .sound .ensures .0 (not-false _ (c .if1 .left))
+-- past the first test the run is valid
+is-valid : (c : tie.Else1) → ValidRun (c .before .before .before .before .before .before .args .run)
+is-valid c = c .before .valid .ensures .0 (not-false _ (c .if1 .left))
 
-sound-requires : tie.Need-sound-requires
-sound-requires c κs = search needs
+valid-requires : tie.Need-valid-requires
+valid-requires c κs = search needs
 
 returns : tie.Need-returns
 returns c =
     let a = c .before .before .before .before .before .before .args in
-    let k = stands-nowhere (a .run) (c .before .sound .ensures .1 (not-true _ (c .if1 .taken))) in
+    let k = stands-nowhere (a .run) (c .before .valid .ensures .1 (not-true _ (c .if1 .taken))) in
     (inl (refl, k .0, k .1), refl, same-lists _ _ _ _)
 
 returns-2 : tie.Need-returns-2
-returns-2 c = let a = c .before .before .before .before .before .before .before .before .args in inl (is-over (a .run) (is-sound (c .before .before)) (c .if2 .taken), refl, refl, same-lists _ _ _ _)
+returns-2 c = let a = c .before .before .before .before .before .before .before .before .args in inl (is-over (a .run) (is-valid (c .before .before)) (c .if2 .taken), refl, refl, same-lists _ _ _ _)
 
 short-rows-requires : tie.Need-short-rows-requires
-short-rows-requires c κs = is-sound (c .before .before) .sized
+short-rows-requires c κs = is-valid (c .before .before) .sized
 
 returns-3 : tie.Need-returns-3
 returns-3 c =
     let a = c .before .before .before .before .before .before .before .before .before .before .args in
-    let T = stands-at (a .run) (is-sound (c .before .before .before .before)) (c .before .before .if2 .left) in
+    let T = stands-at (a .run) (is-valid (c .before .before .before .before)) (c .before .before .if2 .left) in
     (inr (refl, (a .run .size, T .0, T .1, c .before .short-rows .ensures .0 (c .if3 .taken))), refl, same-lists _ _ _ _)
 
 rows-of-requires : tie.Need-rows-of-requires
 rows-of-requires c κs =
     let a = c .before .before .before .before .before .before .before .before .before .before .before .before .before .before .args in
-    let T = stands-at (a .run) (is-sound (c .before .before .before .before .before .before .before .before)) (c .before .before .before .before .before .before .if2 .left) in
+    let T = stands-at (a .run) (is-valid (c .before .before .before .before .before .before .before .before)) (c .before .before .before .before .before .before .if2 .left) in
     (T .0, T .1, c .before .before .before .before .before .short-rows .ensures .1 (c .before .before .before .before .if3 .left))
 
 same-length : tie.Need-same-length
@@ -58,7 +58,7 @@ pub list-spec : {M : Type 1} → statement M
 list-spec =
     tie.close
     (tie.spec
-    sound-requires
+    valid-requires
     returns
     returns-2
     short-rows-requires

@@ -22,14 +22,14 @@ use Rattle.words.specs.Outputs.{Short, Written, Untouched}
 use Rattle.words.specs.Letters.{LettersAfter, LettersPromise}
 use Rattle.words_reading.specs.declared.Reading.{Reading}
 use Rattle.words_reading.specs.Read.{Read, refused, built, ReadPromise}
-use Rattle.labelling_operations.specs.declared.Relabelling.{Relabelling}
-use Rattle.labelling_operations.specs.declared.Relabelling.the-variants as relabelling
-use Rattle.labelling_operations.specs.declared.Comparison.{Comparison}
-use Rattle.labelling_operations.specs.declared.Comparison.the-variants as comparison
-use Rattle.labelling_operations.specs.declared.Symmetry.{Symmetry}
-use Rattle.labelling_operations.specs.declared.Symmetry.the-variants as symmetry
-use Rattle.labelling_operations.specs.declared.KeepMark.{KeepMark}
-use Rattle.labelling_operations.specs.declared.KeepMark.the-variants as mark
+use Rattle.labelling_answers.specs.declared.Relabelling.{Relabelling}
+use Rattle.labelling_answers.specs.declared.Relabelling.the-variants as relabelling
+use Rattle.labelling_answers.specs.declared.Comparison.{Comparison}
+use Rattle.labelling_answers.specs.declared.Comparison.the-variants as comparison
+use Rattle.labelling_answers.specs.declared.Symmetry.{Symmetry}
+use Rattle.labelling_answers.specs.declared.Symmetry.the-variants as symmetry
+use Rattle.labelling_answers.specs.declared.KeepMark.{KeepMark}
+use Rattle.labelling_answers.specs.declared.KeepMark.the-variants as mark
 use Rattle.labelling.specs.Labelling.{characteristic}
 use Rattle.labelling_operations.specs.Promises.{RelabelPromise, CharacteristicPromise, RefusedSide, CompareRootedPromise, CompareUnrootedPromise, SymmetriesPromise, KeptPromise}
 use Rattle.invariants.specs.declared.Numbers.{Numbers}

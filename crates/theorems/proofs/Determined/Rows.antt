@@ -12,11 +12,11 @@ use Rattle.words.specs.Outputs.{Short, Written, Untouched, overwrite}
 use Rattle.listing.specs.Listing.{count}
 use Rattle.listing.specs.Position.{wordAt}
 use Rattle.listing.specs.Diagrams.{diagramAt}
-use Rattle.run_steps.specs.declared.Run.{Run}
-use Rattle.run_steps.specs.declared.Beginning.{Beginning}
-use Rattle.run_steps.specs.declared.Beginning.the-variants as beginning
-use Rattle.run_steps.specs.declared.Stepping.{Stepping}
-use Rattle.run_steps.specs.declared.Stepping.the-variants as stepping
+use Rattle.run_answers.specs.declared.Run.{Run}
+use Rattle.run_answers.specs.declared.Beginning.{Beginning}
+use Rattle.run_answers.specs.declared.Beginning.the-variants as beginning
+use Rattle.run_answers.specs.declared.Stepping.{Stepping}
+use Rattle.run_answers.specs.declared.Stepping.the-variants as stepping
 use Rattle.run_steps.specs.Promises.{runAfter, RunAt, RunFinished, BeginPromise, StepPromise}
 use Rattle.run_blocks.specs.declared.Listing.{Listing}
 use Rattle.run_blocks.specs.declared.Listing.the-variants.{Rows, Refused}

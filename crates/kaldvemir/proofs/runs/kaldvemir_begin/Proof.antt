@@ -1,6 +1,6 @@
 -- `kaldvemir_begin` meets its contract: the numbers of a fresh run are its size and zeros.
 use native.Mathlib.Omega.{arith}
-use Rattle.run_steps.specs.declared.Beginning.the-variants.{Begun, Refused}
+use Rattle.run_answers.specs.declared.Beginning.the-variants.{Begun, Refused}
 use Rattle.kaldvemir_layout_run.specs.Layout.{run-numbers}
 use mathlib.Core.Path.{_≡_, refl, sym, _∙_, ap}
 use borrow.Author.Needs.{needs}

@@ -2,7 +2,7 @@
 use borrow.Author.Needs.{needs}
 use native.Mathlib.Omega.{arith}
 use Rattle.labelling_code.specs.Scratch.{SomeLabelsHeld}
-use Rattle.labelling_events.proofs.Arrays.{take-back, taken-back}
+use Rattle.labelling_arrays.proofs.Arrays.{take-back, taken-back}
 use Rattle.labelling_code.proofs.writing.take_back.Statement.{statement}
 use Rattle.labelling_code.proofs.writing.take_back.Tie as tie
 

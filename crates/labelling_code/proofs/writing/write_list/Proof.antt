@@ -10,7 +10,7 @@ use Rattle.lists.specs.Lists.{at, tabulate}
 use Rattle.lists.specs.Ranges.{OneTo}
 use Rattle.labelling.specs.Labelling.{relabel}
 use Rattle.labelling_code.specs.Scratch.{LabelsHeld}
-use Rattle.labelling_events.proofs.Arrays.{seen, listed-more, listed-length}
+use Rattle.labelling_arrays.proofs.Arrays.{seen, listed-more, listed-length}
 use Rattle.labelling_code.proofs.writing.write_list.Statement.{statement}
 use Rattle.labelling_code.proofs.writing.write_list.Tie as tie
 
