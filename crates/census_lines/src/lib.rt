@@ -1,5 +1,5 @@
-// The lines of a census, as document 01 shows them ("Small sizes, by hand"), written into a lent buffer as crate text_printing writes: the place after
-// them is handed back, and a piece that does not fit is left out (specs/Lines.antt).
+// The line of a diagram in a census, as document 01 shows it ("Small sizes, by hand"), written into a lent buffer as crate text_printing writes: the place after
+// it is handed back, and a piece that does not fit is left out (specs/Lines.antt).
 use invariants::Measured;
 use invariants::Numbers;
 use text_printing::put_byte;
@@ -12,7 +12,7 @@ ghost use mathlib.Core.Path.{_≡_};
 ghost use mathlib.Core.List.{_∷_, []};
 ghost use Rattle.words.specs.Letters.{decimal};
 ghost use Rattle.text_printing.specs.Printing.{output, put, putAll, listPieces};
-ghost use Rattle.census_lines.specs.Lines.{field, numbersPieces, measuredPieces, markText, linePieces, headerPieces, totalsPieces, refusalPieces};
+ghost use Rattle.census_lines.specs.Lines.{field, numbersPieces, measuredPieces, markText, linePieces};
 
 // A number with a space before it.
 fn put_number_field(out: &mut [u8], place: usize, x: u64) -> usize
@@ -83,32 +83,4 @@ pub fn put_line(
     let numbers = put_list_field(out, white, s1);
     let end = put_measured(out, numbers, measured);
     put_mark(out, end, mark)
-}
-
-// The header, from the beginning of out.
-pub fn put_header(out: &mut [u8], size: u64) -> usize
-    ensures { λ r. ⌜ output (now (out .exit)) r ≡ putAll (headerPieces size) (output (now (out .entry)) 0) ⌝ }
-{
-    let number = put_text(out, 0, b"rooted trivalent diagrams, size ");
-    let end = put_number(out, number, size);
-    put_byte(out, end, b'\n')
-}
-
-// The last line, from the beginning of out: how many diagrams were listed, and how many of them are kept.
-pub fn put_totals(out: &mut [u8], listed: u64, kept: u64) -> usize
-    ensures { λ r. ⌜ output (now (out .exit)) r ≡ putAll (totalsPieces listed kept) (output (now (out .entry)) 0) ⌝ }
-{
-    let second = put_number(out, 0, listed);
-    let third = put_text(out, second, b" listed, ");
-    let last = put_number(out, third, kept);
-    put_text(out, last, b" kept\n")
-}
-
-// The line of a refusal, from the beginning of out.
-pub fn put_refusal(out: &mut [u8], number: u16) -> usize
-    ensures { λ r. ⌜ output (now (out .exit)) r ≡ putAll (refusalPieces number) (output (now (out .entry)) 0) ⌝ }
-{
-    let digits = put_text(out, 0, b"refused ");
-    let end = put_number(out, digits, number as u64);
-    put_byte(out, end, b'\n')
 }

@@ -3,9 +3,9 @@
 //
 // The diagrams come from a run in blocks, with their keep marks, and the lines of a block go out together, so that the memory needed does
 // not grow with the size.
-use census_lines::put_header;
-use census_lines::put_refusal;
-use census_lines::put_totals;
+use census_frame::put_header;
+use census_frame::put_refusal;
+use census_frame::put_totals;
 use census_rows::ROWS;
 use census_rows::put_rows;
 use diagrams::Diagram;

@@ -58,6 +58,24 @@ put-all-fits (s ∷ ss) o h =
     far : (o .next + length s) + length (flatten ss) ≡ o .next + length (s ++ flatten ss)
     far = omega (arith, long)
 
+pub put-all-append : (ss ts : List (List ℕ)) (o : Output) → putAll (ss ++ ts) o ≡ putAll ts (putAll ss o)
+unfolding putAll
+put-all-append [] ts o = refl
+put-all-append (s ∷ ss) ts o = put-all-append ss ts (put s o)
+
+-- ---- calls that follow one another: p is what a call leaves, q what those after it leave
+
+pub puts-then : (s : List ℕ) (ts : List (List ℕ)) (o p q : Output) → p ≡ put s o → q ≡ putAll ts p → q ≡ putAll (s ∷ ts) o
+unfolding putAll
+puts-then s ts o p q e f = f ∙ ap (putAll ts) e
+
+pub puts-last : (s : List ℕ) (o p : Output) → p ≡ put s o → p ≡ putAll (s ∷ []) o
+unfolding putAll
+puts-last s o p e = e
+
+pub put-all-then : (ss ts : List (List ℕ)) (o p q : Output) → p ≡ putAll ss o → q ≡ putAll ts p → q ≡ putAll (ss ++ ts) o
+put-all-then ss ts o p q e f = f ∙ ap (putAll ts) e ∙ sym (put-all-append ss ts o)
+
 -- ---- a text, byte by byte
 
 -- s is being written at place i of d: e holds its first k bytes

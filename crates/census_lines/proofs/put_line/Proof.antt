@@ -1,5 +1,5 @@
 -- The parts of a line, one after another.
-use Rattle.census_lines.proofs.Pieces.{puts-then, puts-last, put-all-then}
+use Rattle.text_printing.proofs.Printing.{puts-then, puts-last, put-all-then}
 use Rattle.census_lines.specs.Lines.{linePieces}
 use borrow.Author.Needs.{needs}
 use Rattle.census_lines.proofs.put_line.Statement.{statement}

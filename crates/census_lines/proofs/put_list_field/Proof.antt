@@ -1,5 +1,5 @@
 -- A space, and then the list.
-use Rattle.census_lines.proofs.Pieces.{puts-then}
+use Rattle.text_printing.proofs.Printing.{puts-then}
 use borrow.Author.Needs.{needs}
 use Rattle.census_lines.proofs.put_list_field.Statement.{statement}
 use Rattle.census_lines.proofs.put_list_field.Tie as tie

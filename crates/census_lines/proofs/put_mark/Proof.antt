@@ -1,5 +1,5 @@
 -- The text of the mark, by its test.
-use Rattle.census_lines.proofs.Pieces.{mark-kept, mark-other}
+use Rattle.census_lines.proofs.Lines.{mark-kept, mark-other}
 use borrow.Author.Needs.{needs}
 use Rattle.census_lines.proofs.put_mark.Statement.{statement}
 use Rattle.census_lines.proofs.put_mark.Tie as tie

@@ -1,5 +1,5 @@
 -- A space, and then the number.
-use Rattle.census_lines.proofs.Pieces.{puts-then, puts-last}
+use Rattle.text_printing.proofs.Printing.{puts-then, puts-last}
 use borrow.Author.Needs.{needs}
 use Rattle.census_lines.proofs.put_number_field.Statement.{statement}
 use Rattle.census_lines.proofs.put_number_field.Tie as tie

@@ -1,5 +1,6 @@
 -- The five numbers, one field after another.
-use Rattle.census_lines.proofs.Pieces.{puts-then, put-all-then, signed-same}
+use Rattle.text_printing.proofs.Printing.{puts-then, put-all-then}
+use Rattle.census_lines.proofs.Lines.{signed-same}
 use Rattle.census_lines.specs.Lines.{numbersPieces}
 use mir.Syntax.{w32}
 use mir.ValLaws.{toZ-ofZ}

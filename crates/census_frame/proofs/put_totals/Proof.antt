@@ -1,9 +1,9 @@
 -- The two numbers, each with its text.
-use Rattle.census_lines.proofs.Pieces.{puts-then, puts-last}
-use Rattle.census_lines.specs.Lines.{totalsPieces}
+use Rattle.text_printing_pieces.proofs.Pieces.{puts-then, puts-last}
+use Rattle.census_frame.specs.Frame.{totalsPieces}
 use borrow.Author.Needs.{needs}
-use Rattle.census_lines.proofs.put_totals.Statement.{statement}
-use Rattle.census_lines.proofs.put_totals.Tie as tie
+use Rattle.census_frame.proofs.put_totals.Statement.{statement}
+use Rattle.census_frame.proofs.put_totals.Tie as tie
 
 put-number-requires : tie.Need-put-number-requires
 put-number-requires c κs = search needs

@@ -1,9 +1,9 @@
--- The fixed text, the number, the newline.
-use Rattle.census_lines.proofs.Pieces.{puts-then, puts-last}
-use Rattle.census_lines.specs.Lines.{refusalPieces}
+-- The fixed text, the size, the newline.
+use Rattle.text_printing_pieces.proofs.Pieces.{puts-then, puts-last}
+use Rattle.census_frame.specs.Frame.{headerPieces}
 use borrow.Author.Needs.{needs}
-use Rattle.census_lines.proofs.put_refusal.Statement.{statement}
-use Rattle.census_lines.proofs.put_refusal.Tie as tie
+use Rattle.census_frame.proofs.put_header.Statement.{statement}
+use Rattle.census_frame.proofs.put_header.Tie as tie
 
 slice-aggregate-put-text : tie.Need-slice-aggregate-put-text
 slice-aggregate-put-text c = search needs
@@ -21,11 +21,11 @@ same-length : tie.Need-same-length
 same-length c = search needs
 
 returns : tie.Need-returns
-unfolding refusalPieces
+unfolding headerPieces
 returns c = puts-then _ _ _ _ _ (c .before .before .before .before .before .before .before .before .before .before .put-text .ensures) (puts-then _ _ _ _ _ (c .before .before .before .before .before .before .put-number .ensures) (puts-last _ _ _ (c .before .before .put-byte .ensures)))
 
-pub put-refusal-spec : {M : Type 1} → statement M
-put-refusal-spec =
+pub put-header-spec : {M : Type 1} → statement M
+put-header-spec =
     tie.close
     (tie.spec
     slice-aggregate-put-text
