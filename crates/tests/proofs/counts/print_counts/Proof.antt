@@ -1,8 +1,8 @@
 -- `print_counts` is safe and ends: the sizes that are left fall.
 use Prim.Native.Nat.{_-_, _≤_}
 use borrow.Author.Needs.{needs}
-use Rattle.tests_census.proofs.counts.print_counts.Statement.{statement}
-use Rattle.tests_census.proofs.counts.print_counts.Tie as tie
+use Rattle.tests.proofs.counts.print_counts.Statement.{statement}
+use Rattle.tests.proofs.counts.print_counts.Tie as tie
 
 abbrev Inv-loop : tie.InvT-loop
 Inv-loop size₀ size = size ≤ 23

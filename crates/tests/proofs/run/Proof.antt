@@ -2,8 +2,8 @@
 use borrow.Author.Needs.{needs}
 use Prim.Native.Nat.{_-_, _≤_}
 use lib.ListN.{length}
-use Rattle.tests_census.proofs.run.Statement.{statement}
-use Rattle.tests_census.proofs.run.Tie as tie
+use Rattle.tests.proofs.run.Statement.{statement}
+use Rattle.tests.proofs.run.Tie as tie
 
 abbrev Inv-loop : tie.InvT-loop
 Inv-loop inputs start₀ start = start ≤ length inputs

@@ -3,8 +3,8 @@ use Prim.Native.Nat.{_-_, _≤_}
 use mathlib.Core.Path.{_≡_}
 use lib.ListN.{length}
 use borrow.Author.Needs.{needs}
-use Rattle.tests_census.proofs.counts.counted.Statement.{statement}
-use Rattle.tests_census.proofs.counts.counted.Tie as tie
+use Rattle.tests.proofs.counts.counted.Statement.{statement}
+use Rattle.tests.proofs.counts.counted.Tie as tie
 
 abbrev Inv-loop : tie.InvT-loop
 Inv-loop s0₀ s1₀ word₀ now₀ rooted₀ kept₀ s0 s1 word now rooted kept = (length s0 ≡ length s0₀) × (length s1 ≡ length s1₀) × (length word ≡ length word₀) × (kept ≤ rooted)

@@ -1,7 +1,9 @@
-// The census program's input, case by case, and the numbers of rooted and kept diagrams by size (counts.rt). Standard input holds inputs of the
-// census, each with a semicolon after it. Each is printed with its semicolon, and then what the census prints. The file stdout was written from
-// document 01, the listings of sizes 1, 2 and 4 that were handed over and the published counts, not from what the program prints.
+// The census program's input, case by case; the numbers of rooted and kept diagrams by size (counts.rt); and the share book in its lent form
+// (lent_book.rt). Standard input holds inputs of the census, each with a semicolon after it. Each is printed with its semicolon, and then what the
+// census prints. The file stdout was written from document 01, the listings of sizes 1, 2 and 4 that were handed over and the published counts, not
+// from what the program prints.
 mod counts;
+mod lent_book;
 
 use libc::STDIN_FILENO;
 use libc::STDOUT_FILENO;
@@ -29,4 +31,5 @@ fn main() {
     let n = io::read_full(STDIN_FILENO, &mut inputs);
     run(&inputs[..n]);
     counts::print_counts();
+    lent_book::run_sessions();
 }
