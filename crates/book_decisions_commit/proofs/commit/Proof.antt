@@ -3,6 +3,7 @@ use borrow.Author.Needs.{needs}
 use mathlib.Core.Path.{_≡_, refl, sym, _∙_}
 use mathlib.Core.Logic.{_≢_}
 use Prim.Native.Nat.{ℕ}
+use native.Mathlib.Omega.{arith}
 use Rattle.lists.specs.Ranges.{OneTo}
 use Rattle.lists.proofs.Tests.{eqb-eq, eqb-ne}
 use Rattle.book.specs.declared.types.Book.{Book}
@@ -58,7 +59,7 @@ enum-known-j : tie.Need-enum-known-j
 enum-known-j c = search needs
 
 entry-requires : tie.Need-entry-requires
-entry-requires c κs = (one-of-32 c, c .before .before .before .before .before .before .before .pre .0)
+entry-requires c κs = (one-of-32 c, omega arith)
 
 returns : tie.Need-returns
 returns c =
