@@ -10,12 +10,13 @@ use lib.ListN.{length, getD, take, drop, take-append-drop}
 use lib.Seq.{drop-cons, take-suc, take-length, drop-length}
 use Rattle.lists.proofs.Tests.{ltb-true}
 use Rattle.words.specs.Shape.{pre, Fits}
-use Rattle.listing_successor.specs.declared.StackState.{StackState}
+use Rattle.listing_successor_states.specs.declared.StackState.{StackState}
 use Rattle.listing_successor.specs.Successor.{stackState, deadEnd, stateAfterItem, canEnd, canEndAfter, leastAbove, leastEnding, raisedTo, keepOr, nextEnding}
 use Rattle.listing_successor.specs.Reading.{ReadsTo, Raises}
-use Rattle.listing_successor.proofs.States.{fits-after, after-fits, after-small, dead}
-use Rattle.listing_successor.proofs.Events.{above-least}
-use Rattle.listing_successor.proofs.Cases.{state-same}
+use Rattle.listing_successor_states.proofs.Cases.{state-same}
+use Rattle.listing_successor_states.proofs.States.{fits-after, after-fits, after-small}
+use Rattle.listing_successor_events.proofs.Ends.{dead}
+use Rattle.listing_successor_events.proofs.Events.{above-least}
 
 -- ---- the state before an item
 

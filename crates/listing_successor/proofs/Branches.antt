@@ -13,14 +13,8 @@ use Rattle.words.specs.Shape.{Word}
 use Rattle.words.proofs.Shape.{word-length}
 use Rattle.listing_successor.specs.Successor.{stateAfterFirst, canEnd, leastEnding, raisedTo, keepOr, firstWord, firstAbove, successor}
 use Rattle.listing_successor.specs.Reading.{Raises}
-use Rattle.listing_successor.proofs.States.{start-word}
-use Rattle.listing_successor.proofs.Endings.{ending-least}
 use Rattle.listing_successor.proofs.Follows.{words-follow, cons-not}
 use Rattle.listing_successor.proofs.Forwards.{rest}
-
--- a word of at most 50 edges has room
-pub rooted-room : (n x : ℕ) → n ≤ 50 → canEnd (stateAfterFirst n x .height) (stateAfterFirst n x .free) ≡ true → 1 + length (leastEnding (stateAfterFirst n x .height) (stateAfterFirst n x .free)) ≤ 51
-rooted-room n x l q = let i = word-length n (x ∷ leastEnding (stateAfterFirst n x .height) (stateAfterFirst n x .free)) (start-word n x (leastEnding (stateAfterFirst n x .height) (stateAfterFirst n x .free)) (ending-least (stateAfterFirst n x .height) (stateAfterFirst n x .free) q .fits)) in omega arith
 
 pub following-room : (n : ℕ) (w : List ℕ) → n ≤ 50 → Word n w → length (successor n w) ≤ 51
 following-room n w l a = go (successor n w) (λ e. words-follow n w a .some e .0)

@@ -8,11 +8,36 @@ use Prim.Native.Nat.{ℕ, zero, suc, _≤_, _<_}
 use native.Mathlib.Omega.{arith}
 use Rattle.words.specs.Order.{Before}
 use Rattle.words.specs.Shape.{Fits, Word}
-use Rattle.listing_successor.specs.declared.StackState.{StackState}
+use Rattle.listing_successor_states.specs.declared.StackState.{StackState}
 use Rattle.listing_successor.specs.Successor.{stateAfterItem, stateAfterFirst, canEnd, canEndAfter, leastAbove, leastEnding, raisedTo, keepOr, nextEnding, firstWord, firstAbove, successor}
-use Rattle.listing_successor.proofs.States.{From, fits-after, after-fits, word-start, start-word, dead}
-use Rattle.listing_successor.proofs.Events.{Seeks, above-least, root-least}
-use Rattle.listing_successor.proofs.Endings.{Ending, ending-least}
+use Rattle.listing_successor_states.proofs.States.{From, fits-after, after-fits, word-start, start-word}
+use Rattle.listing_successor_events.proofs.Ends.{dead}
+use Rattle.listing_successor_events.proofs.Events.{Seeks, above-least}
+use Rattle.listing_successor_endings.proofs.Endings.{Ending, ending-least}
+
+-- T is the least first item above U, where three labels can be had
+root-least : (n x : ℕ) → Seeks (λ y. canEnd (stateAfterFirst n y .height) (stateAfterFirst n y .free)) x 1 (firstAbove n x)
+root-least n (suc x) = record { none = λ z y a b. later y (omega arith); some = λ z. absurd (z refl); least = λ y a b c. absurd (omega arith) }
+  where
+    later : (y : ℕ) → 2 ≤ y → canEnd (stateAfterFirst n y .height) (stateAfterFirst n y .free) ≡ false
+    later zero l = absurd (omega arith)
+    later (suc zero) l = absurd (omega arith)
+    later (suc (suc y)) l = refl
+root-least n zero = go n
+  where
+    few : (n : ℕ) → canEnd (stateAfterFirst n 1 .height) (stateAfterFirst n 1 .free) ≡ false → Seeks (λ y. canEnd (stateAfterFirst n y .height) (stateAfterFirst n y .free)) 0 1 0
+    few n q = record { none = λ z y a b. at y a; some = λ z. absurd (z refl); least = λ y a b c. absurd (omega arith) }
+      where
+        at : (y : ℕ) → 0 < y → canEnd (stateAfterFirst n y .height) (stateAfterFirst n y .free) ≡ false
+        at zero l = absurd (omega arith)
+        at (suc zero) l = q
+        at (suc (suc y)) l = refl
+
+    go : (n : ℕ) → Seeks (λ y. canEnd (stateAfterFirst n y .height) (stateAfterFirst n y .free)) 0 1 (firstAbove n 0)
+    go zero = few 0 refl
+    go (suc zero) = few 1 refl
+    go (suc (suc zero)) = few 2 refl
+    go (suc (suc (suc g))) = record { none = λ z. absurd (omega arith); some = λ z. (omega arith, omega arith, refl); least = λ y a b c. absurd (omega arith) }
 
 -- among the lists of which P holds, v is the next after w; [] where there is none
 pub record Follows (P : List ℕ → Type 0) (w v : List ℕ) : Type 0 where

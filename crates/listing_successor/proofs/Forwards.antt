@@ -12,9 +12,9 @@ use lib.Seq.{drop-cons}
 use Rattle.lists.proofs.Tests.{eqb-true, eqb-false}
 use Rattle.lists.proofs.Lists.{rest-is}
 use Rattle.words.specs.Shape.{Fits, Word}
-use Rattle.listing_successor.specs.declared.StackState.{StackState}
+use Rattle.listing_successor_states.specs.declared.StackState.{StackState}
 use Rattle.listing_successor.specs.Successor.{stateAfterItem, stateAfterFirst}
-use Rattle.listing_successor.proofs.States.{fits-after, after-fits, word-start, start-word, after-small}
+use Rattle.listing_successor_states.proofs.States.{fits-after, after-fits, word-start, start-word, after-small}
 
 -- after i items of w, read from h₀ and f₀ on, the state is h and f
 pub record Forth (h₀ f₀ : ℕ) (w : List ℕ) (i h f : ℕ) : Type 0 where
@@ -54,15 +54,6 @@ module _ (h₀ f₀ : ℕ) (w : List ℕ) (i h f : ℕ) (R : Forth h₀ f₀ w i
 -- the items after the first, as a part of the list
 abbrev pub rest : List ℕ → List ℕ
 rest w = take (length w - 1) (drop 1 w)
-
-pub start-small : (n x : ℕ) → n ≤ 50 → stateAfterFirst n x .height + stateAfterFirst n x .free ≤ 50
-start-small zero zero l = omega arith
-start-small (suc n) zero l = omega arith
-start-small zero (suc zero) l = omega arith
-start-small (suc zero) (suc zero) l = omega arith
-start-small (suc (suc zero)) (suc zero) l = omega arith
-start-small (suc (suc (suc n))) (suc zero) l = omega arith
-start-small n (suc (suc x)) l = omega arith
 
 pub word-to-rest : (n : ℕ) (w : List ℕ) (l : StackState) → l ≡ stateAfterFirst n (getD w 0 0) → Word n w → Fits (l .height) (l .free) (rest w)
 word-to-rest n [] l e a = absurd a

@@ -1,9 +1,5 @@
-pub mod States
-pub mod Events
-pub mod Endings
 pub mod Follows
 pub mod Places
-pub mod Cases
 pub mod Backwards
 pub mod Forwards
 pub mod Padding

@@ -19,8 +19,8 @@ use Rattle.listing.proofs.Completions.{sound, complete, sorted}
 use Rattle.listing.proofs.Listing.{listing-sound, listing-complete, listing-sorted}
 use Rattle.listing.proofs.Positions.{sorted-at, at-word}
 use Rattle.listing_successor.specs.Successor.{canEnd, leastEnding, nextEnding, firstWord, successor}
-use Rattle.listing_successor.proofs.States.{dead}
-use Rattle.listing_successor.proofs.Endings.{ending-least}
+use Rattle.listing_successor_events.proofs.Ends.{dead}
+use Rattle.listing_successor_endings.proofs.Endings.{ending-least}
 use Rattle.listing_successor.proofs.Follows.{Follows, cons-not, ways-follow, words-follow, first-follows, first-not}
 
 -- ---- places of a list of words

@@ -1,12 +1,13 @@
 -- The word that follows a word, with how far the two agree, so that what was made for the one can be kept for the other as far as that.
 --
+--   Next                      (declared by listing_successor_endings) a word, and how many items the word before it begins with too
 --   Agree k v w               the lists v and w begin with the same k items
 --   SuccessorPromise n w r    r holds the word that follows w among the words of size n, and w and that word agree in its first `shared` items
 use mathlib.Core.Path.{_≡_}
 use mathlib.Core.List.{List}
 use Prim.Native.Nat.{ℕ, _≤_}
 use lib.ListN.{length, take}
-use Rattle.listing_successor.specs.declared.Next.{Next}
+pub use Rattle.listing_successor_endings.specs.declared.Next.{Next}
 use Rattle.listing_successor.specs.Successor.{successor, paddedWord}
 
 pub record Agree (k : ℕ) (v w : List ℕ) : Type 0 where

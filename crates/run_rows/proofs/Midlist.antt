@@ -17,9 +17,8 @@ use Rattle.listing.specs.Listing.{count}
 use Rattle.listing.specs.Position.{wordAt}
 use Rattle.listing.specs.Diagrams.{diagramOf, diagramAt}
 use Rattle.listing_successor.specs.declared.Held.{Held}
-use Rattle.listing_successor.specs.declared.Next.{Next}
 use Rattle.listing_successor.specs.Successor.{successor, heldWord}
-use Rattle.listing_successor.specs.Promises.{Agree, SuccessorPromise}
+use Rattle.listing_successor.specs.Promises.{Next, Agree, SuccessorPromise}
 use Rattle.listing_successor.proofs.Padding.{held-by}
 use Rattle.listing_successor.proofs.Places.{word-at, following-at}
 use Rattle.words_respelling.specs.SpelledSoFar.{ScratchLengths, SpelledSoFar, SharedBeginning}

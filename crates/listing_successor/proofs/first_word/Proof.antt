@@ -2,7 +2,7 @@
 use borrow.Author.Needs.{needs}
 use mathlib.Core.Path.{_≡_, sym, ap, _∙_}
 use Rattle.listing_successor.specs.Successor.{stateAfterFirst, canEnd, firstWord}
-use Rattle.listing_successor.specs.declared.StackState.{StackState}
+use Rattle.listing_successor_states.specs.declared.StackState.{StackState}
 use Rattle.listing_successor.proofs.Branches.{start-T-ends, start-U-dead}
 use Rattle.listing_successor.proofs.first_word.Statement.{statement}
 use Rattle.listing_successor.proofs.first_word.Tie as tie

@@ -3,7 +3,8 @@ use borrow.Author.Needs.{needs}
 use mathlib.Core.Bool.{true≢false}
 use mathlib.Core.Path.{sym}
 use lib.ListN.{getD}
-use Rattle.listing_successor.proofs.Forwards.{start-small, word-to-rest, rest-to-word, empty-not}
+use Rattle.listing_successor_states.proofs.States.{start-small}
+use Rattle.listing_successor.proofs.Forwards.{word-to-rest, rest-to-word, empty-not}
 use Rattle.listing_successor.proofs.is_word.Statement.{statement}
 use Rattle.listing_successor.proofs.is_word.Tie as tie
 

@@ -11,7 +11,8 @@ use Rattle.listing_successor.specs.Successor.{stateAfterFirst, leastEndi
 use Rattle.listing_successor.specs.Promises.{SuccessorPromise}
 use Rattle.listing_successor.specs.Reading.{Raises}
 use Rattle.listing_successor.proofs.Padding.{agree-none, agree-take, succeeds}
-use Rattle.listing_successor.proofs.Forwards.{rest, start-small, word-to-rest}
+use Rattle.listing_successor_states.proofs.States.{start-small}
+use Rattle.listing_successor.proofs.Forwards.{rest, word-to-rest}
 use Rattle.listing_successor.proofs.Branches.{word-there, start-T-ends, raised-room, following-first, following-raised, following-rooted, following-none}
 use Rattle.listing_successor.proofs.successor.Statement.{statement}
 use Rattle.listing_successor.proofs.successor.Tie as tie
