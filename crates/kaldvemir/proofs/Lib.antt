@@ -1,3 +1,2 @@
 mod Stepped
 mod Blocks
-mod Opened

@@ -1,23 +1,10 @@
-// The share book. It lies with the caller as 100 numbers: an operation looks at them where they are, and writes those that it alters.
-use book::Book;
-use book::Opening;
-use book_decisions::claim;
-use book_decisions::commit;
-use book_decisions::release;
-use book_decisions::report;
-use book_decisions::take;
-use book_operations::open_core;
+// The share book, which lies with the caller as 100 numbers.
 use kaldvemir_answers_book::claim_answer;
 use kaldvemir_answers_book::commit_answer;
+use kaldvemir_answers_book::open_answer;
 use kaldvemir_answers_book::release_answer;
 use kaldvemir_answers_book::report_answer;
 use kaldvemir_answers_book::take_answer;
-use kaldvemir_layout_book::change;
-use kaldvemir_layout_book::expiries;
-use kaldvemir_layout_book::heads;
-use kaldvemir_layout_book::nexts;
-use kaldvemir_layout_book::put_back;
-use kaldvemir_layout_book::tickets;
 ghost use mathlib.Core.Path.{_≡_};
 ghost use Rattle.book.specs.Calls.{open-answer, open-book, claim-answer, claim-book, commit-answer, commit-book, release-answer, release-book, report-answer};
 ghost use Rattle.book.specs.Taken.{TakePromise};
@@ -26,38 +13,13 @@ ghost use Rattle.book.specs.declared.types.Taking.{Taking};
 ghost use Rattle.kaldvemir_answers.specs.Answers as answers;
 ghost use Rattle.kaldvemir_layout_book.specs.Layout.{book-of, book-numbers};
 
-// A book of zeros, for open to decide on: it tests nothing of the book that it is to alter.
-fn blank() -> Book {
-    let none = [0u64; 32];
-    Book {
-        size: 0,
-        shares: 0,
-        latest: 0,
-        issued: 0,
-        next: none,
-        ticket: none,
-        expiry: none,
-    }
-}
-
 // Nothing of the lent book is read, and it is written only where the opening is accepted.
 #[no_mangle]
 pub extern "C" fn kaldvemir_open(book: &mut [u64; 100], size: u64, shares: u64) -> u16
     ensures { λ r. ⌜ (r ≡ answers.opening-number (open-answer size shares))
         × (now (book .exit) ≡ book-numbers (open-book (book-of (now (book .entry))) size shares)) ⌝ }
 {
-    let done = open_core(blank(), size, shares);
-    let answer = done.answer;
-    let opened = done.book;
-    // the lent numbers as a list, which says that they are 100; none is looked at
-    let numbers: &[u64] = book;
-    match answer {
-        Opening::Refused(k) => k,
-        Opening::Opened => {
-            put_back(book, opened);
-            0
-        }
-    }
+    open_answer(kaldvemir_book::open(book, size, shares))
 }
 
 #[no_mangle]
@@ -72,20 +34,8 @@ pub extern "C" fn kaldvemir_claim(
         × (now (ticket .exit) ≡ answers.claiming-ticket (claim-answer (book-of (now (book .entry))) tick share length) (now (ticket .entry)))
         × (now (book .exit) ≡ book-numbers (claim-book (book-of (now (book .entry))) tick share length)) ⌝ }
 {
-    let numbers: &[u64] = book;
-    let choice = claim(
-        heads(numbers),
-        nexts(numbers),
-        tickets(numbers),
-        expiries(numbers),
-        tick,
-        share,
-        length,
-    );
-    let answer = choice.answer;
-    let altered = choice.change;
-    change(book, altered);
-    claim_answer(answer, ticket)
+    let a = kaldvemir_book::claim(book, tick, share, length);
+    claim_answer(a, ticket)
 }
 
 #[no_mangle]
@@ -108,22 +58,8 @@ pub extern "C" fn kaldvemir_take(
         × (now (length .exit) ≡ answers.taking-length a (now (length .entry)))
         × (now (book .exit) ≡ book-numbers next)) ⌝ }
 {
-    let numbers: &[u64] = book;
-    let choice = take(
-        heads(numbers),
-        nexts(numbers),
-        tickets(numbers),
-        expiries(numbers),
-        tick,
-        ticket,
-        s0,
-        s1,
-        word,
-    );
-    let answer = choice.answer;
-    let altered = choice.change;
-    change(book, altered);
-    take_answer(answer, share, position, length)
+    let a = kaldvemir_book::take(book, tick, ticket, s0, s1, word);
+    take_answer(a, share, position, length)
 }
 
 #[no_mangle]
@@ -136,20 +72,7 @@ pub extern "C" fn kaldvemir_commit(
     ensures { λ r. ⌜ (r ≡ answers.committing-number (commit-answer (book-of (now (book .entry))) tick ticket position))
         × (now (book .exit) ≡ book-numbers (commit-book (book-of (now (book .entry))) tick ticket position)) ⌝ }
 {
-    let numbers: &[u64] = book;
-    let choice = commit(
-        heads(numbers),
-        nexts(numbers),
-        tickets(numbers),
-        expiries(numbers),
-        tick,
-        ticket,
-        position,
-    );
-    let answer = choice.answer;
-    let altered = choice.change;
-    change(book, altered);
-    commit_answer(answer)
+    commit_answer(kaldvemir_book::commit(book, tick, ticket, position))
 }
 
 #[no_mangle]
@@ -157,19 +80,7 @@ pub extern "C" fn kaldvemir_release(book: &mut [u64; 100], tick: u64, ticket: u6
     ensures { λ r. ⌜ (r ≡ answers.releasing-number (release-answer (book-of (now (book .entry))) tick ticket))
         × (now (book .exit) ≡ book-numbers (release-book (book-of (now (book .entry))) tick ticket)) ⌝ }
 {
-    let numbers: &[u64] = book;
-    let choice = release(
-        heads(numbers),
-        nexts(numbers),
-        tickets(numbers),
-        expiries(numbers),
-        tick,
-        ticket,
-    );
-    let answer = choice.answer;
-    let altered = choice.change;
-    change(book, altered);
-    release_answer(answer)
+    release_answer(kaldvemir_book::release(book, tick, ticket))
 }
 
 #[no_mangle]
@@ -182,12 +93,6 @@ pub extern "C" fn kaldvemir_report(
         × (now (committed .exit) ≡ answers.reporting-committed (report-answer (book-of (now (book .entry)))) (now (committed .entry)))
         × (now (complete .exit) ≡ answers.reporting-complete (report-answer (book-of (now (book .entry)))) (now (complete .entry))) ⌝ }
 {
-    let numbers: &[u64] = book;
-    let answer = report(
-        heads(numbers),
-        nexts(numbers),
-        tickets(numbers),
-        expiries(numbers),
-    );
-    report_answer(answer, committed, complete)
+    let a = kaldvemir_book::report(book);
+    report_answer(a, committed, complete)
 }

@@ -1,12 +1,22 @@
 // The answers of the share book's operations, told through the boundary as those of crate kaldvemir_answers are.
 use book::Claiming;
 use book::Committing;
+use book::Opening;
 use book::Releasing;
 use book::Reporting;
 use book::Taking;
 ghost use mathlib.Core.Path.{_≡_};
 ghost use mathlib.Core.Bool.{cond};
 ghost use Rattle.book.specs.Answers as answers;
+
+pub fn open_answer(a: Opening) -> u16
+    ensures { λ r. ⌜ r ≡ answers.opening-number a ⌝ }
+{
+    match a {
+        Opening::Opened => 0,
+        Opening::Refused(k) => k,
+    }
+}
 
 pub fn claim_answer(a: Claiming, ticket: &mut u64) -> u16
     ensures { λ r. ⌜ (r ≡ answers.claiming-number a)

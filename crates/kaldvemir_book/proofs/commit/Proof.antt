@@ -1,10 +1,9 @@
--- `kaldvemir_commit` meets its contract: the decision on the parts of the 100 numbers, and the change written back.
+-- `commit` meets its contract: the decision on the parts of the 100 numbers, and the change written back.
 use mathlib.Core.Path.{_∙_, ap}
 use Rattle.kaldvemir_layout_book.specs.Layout.{book-numbers}
-use Rattle.kaldvemir_answers.specs.Answers as answers
 use borrow.Author.Needs.{needs}
-use Rattle.kaldvemir.proofs.books.kaldvemir_commit.Statement.{statement}
-use Rattle.kaldvemir.proofs.books.kaldvemir_commit.Tie as tie
+use Rattle.kaldvemir_book.proofs.commit.Statement.{statement}
+use Rattle.kaldvemir_book.proofs.commit.Tie as tie
 
 heads-requires : tie.Need-heads-requires
 heads-requires c κs = search needs
@@ -24,17 +23,14 @@ commit-requires c κs = (c .before .before .nexts .ensures .1, c .before .ticket
 change-requires : tie.Need-change-requires
 change-requires c κs = search needs
 
-commit-answer-requires : tie.Need-commit-answer-requires
-commit-answer-requires c κs = search needs
-
 returns : tie.Need-returns
 returns c =
-    let x = c .before .before .before in
+    let x = c .before .before in
     let k = rw (x .before .before .before .before .heads .ensures, x .before .before .before .nexts .ensures .0, x .before .before .tickets .ensures .0, x .before .expiries .ensures .0) at (x .commit .ensures) in
-    (c .commit-answer .ensures ∙ ap answers.committing-number (k .0), c .before .change .ensures ∙ ap book-numbers (k .1))
+    (k .0, c .change .ensures ∙ ap book-numbers (k .1))
 
-pub kaldvemir-commit-spec : {M : Type 1} → statement M
-kaldvemir-commit-spec =
+pub commit-spec : {M : Type 1} → statement M
+commit-spec =
     tie.close
     (tie.spec
     heads-requires
@@ -43,5 +39,4 @@ kaldvemir-commit-spec =
     expiries-requires
     commit-requires
     change-requires
-    commit-answer-requires
     returns)

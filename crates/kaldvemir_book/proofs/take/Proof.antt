@@ -1,10 +1,10 @@
--- `kaldvemir_take` meets its contract: the decision on the parts of the 100 numbers, and the change written back.
+-- `take` meets its contract: the decision on the parts of the 100 numbers, and the change written back.
 use denote.Ref.{now}
 use Rattle.book.specs.Changes.{changed}
 use Rattle.kaldvemir_layout_book.specs.Layout.{book-of}
 use borrow.Author.Needs.{needs}
-use Rattle.kaldvemir.proofs.books.kaldvemir_take.Statement.{statement}
-use Rattle.kaldvemir.proofs.books.kaldvemir_take.Tie as tie
+use Rattle.kaldvemir_book.proofs.take.Statement.{statement}
+use Rattle.kaldvemir_book.proofs.take.Tie as tie
 
 heads-requires : tie.Need-heads-requires
 heads-requires c κs = search needs
@@ -24,9 +24,6 @@ take-requires c κs = let x = c .before .before .before in (x .before .before .n
 change-requires : tie.Need-change-requires
 change-requires c κs = search needs
 
-take-answer-requires : tie.Need-take-answer-requires
-take-answer-requires c κs = search needs
-
 same-length : tie.Need-same-length
 same-length c = search needs
 
@@ -38,22 +35,13 @@ same-length-3 c = search needs
 
 returns : tie.Need-returns
 returns c =
-    let d = c .before .before .before .before .before .before .before .before .before .before .before .before in
+    let d = c .before .before .before .before .before .before .before .before in
     let x = d .before .before .before .before in
     let k = rw (x .before .before .before .heads .ensures, x .before .before .nexts .ensures .0, x .before .tickets .ensures .0, x .expiries .ensures .0) at (d .take .ensures .0) in
-    let a = c .take-answer .ensures in (
-      d .take .result .answer,
-      changed (book-of (now (x .before .before .before .before .before .before .before .before .before .args .book))) (d .take .result .change),
-      k,
-      a .0,
-      a .1,
-      a .2,
-      a .3,
-      c .before .before .before .before .change .ensures,
-    )
+    (changed (book-of (now (x .before .before .before .before .before .before .before .before .before .args .book))) (d .take .result .change), k, c .change .ensures)
 
-pub kaldvemir-take-spec : {M : Type 1} → statement M
-kaldvemir-take-spec =
+pub take-spec : {M : Type 1} → statement M
+take-spec =
     tie.close
     (tie.spec
     heads-requires
@@ -62,7 +50,6 @@ kaldvemir-take-spec =
     expiries-requires
     take-requires
     change-requires
-    take-answer-requires
     same-length
     same-length-2
     same-length-3

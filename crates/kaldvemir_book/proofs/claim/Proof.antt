@@ -1,9 +1,9 @@
--- `kaldvemir_claim` meets its contract: the decision on the parts of the 100 numbers, and the change written back.
+-- `claim` meets its contract: the decision on the parts of the 100 numbers, and the change written back.
 use mathlib.Core.Path.{_∙_, ap}
 use Rattle.kaldvemir_layout_book.specs.Layout.{book-numbers}
 use borrow.Author.Needs.{needs}
-use Rattle.kaldvemir.proofs.books.kaldvemir_claim.Statement.{statement}
-use Rattle.kaldvemir.proofs.books.kaldvemir_claim.Tie as tie
+use Rattle.kaldvemir_book.proofs.claim.Statement.{statement}
+use Rattle.kaldvemir_book.proofs.claim.Tie as tie
 
 heads-requires : tie.Need-heads-requires
 heads-requires c κs = search needs
@@ -23,18 +23,14 @@ claim-requires c κs = (c .before .before .nexts .ensures .1, c .before .tickets
 change-requires : tie.Need-change-requires
 change-requires c κs = search needs
 
-claim-answer-requires : tie.Need-claim-answer-requires
-claim-answer-requires c κs = search needs
-
 returns : tie.Need-returns
 returns c =
-    let x = c .before .before .before .before in
+    let x = c .before .before in
     let k = rw (x .before .before .before .before .heads .ensures, x .before .before .before .nexts .ensures .0, x .before .before .tickets .ensures .0, x .before .expiries .ensures .0) at (x .claim .ensures) in
-    let a = rw (k .0) at (c .claim-answer .ensures) in
-    (a .0, a .1, c .before .before .change .ensures ∙ ap book-numbers (k .1))
+    (k .0, c .change .ensures ∙ ap book-numbers (k .1))
 
-pub kaldvemir-claim-spec : {M : Type 1} → statement M
-kaldvemir-claim-spec =
+pub claim-spec : {M : Type 1} → statement M
+claim-spec =
     tie.close
     (tie.spec
     heads-requires
@@ -43,5 +39,4 @@ kaldvemir-claim-spec =
     expiries-requires
     claim-requires
     change-requires
-    claim-answer-requires
     returns)
