@@ -1,4 +1,1 @@
-pub mod EventBlocks
-pub mod Choices
-pub mod Passing
 pub mod Places

@@ -17,31 +17,12 @@ use Rattle.listing.specs.Listing.{prefixEach, completions, listing, ways, count
 use Rattle.listing.specs.Position.{wordAt, position}
 use Rattle.listing.specs.Ranking.{rank}
 use Rattle.listing.proofs.Completions.{length-each, completions-ways}
-use Rattle.listing.proofs.Listing.{counted}
 use Rattle.listing.proofs.Ranking.{getD-each, unranked-at, placed}
 use Rattle.listing.proofs.Positions.{at-once, position-in, at-position}
 use Rattle.listing_table.proofs.Table.{ways-small}
-use Rattle.listing_places.specs.Steps.{Unranking}
-use Rattle.listing_places.proofs.Passing.{rank-small}
-
--- ---- the count
-
-pub count-few : (n : ℕ) → 1 ≤ n → n < 3 → count n ≡ ways 1 (n - 1)
-unfolding count
-count-few zero l m = absurd (omega arith)
-count-few (suc zero) l m = counted 1 ∙ omega arith
-count-few (suc (suc zero)) l m = counted 2 ∙ omega arith
-count-few (suc (suc (suc f))) l m = absurd (omega arith)
-
-pub count-more : (n : ℕ) → 3 ≤ n → count n ≡ ways 1 (n - 1) + ways 3 (n - 3)
-unfolding count
-count-more zero l = absurd (omega arith)
-count-more (suc zero) l = absurd (omega arith)
-count-more (suc (suc zero)) l = absurd (omega arith)
-count-more (suc (suc (suc f))) l =
-    let a : suc (suc (suc f)) - 1 ≡ suc (suc f) = omega arith in
-    let b : suc (suc (suc f)) - 3 ≡ f = omega arith in
-    rw (a, b) (counted (suc (suc (suc f))))
+use Rattle.listing_places_count.proofs.Count.{count-few, count-more}
+use Rattle.listing_places_ways.specs.Steps.{Unranking}
+use Rattle.listing_places_ways.proofs.Passing.{rank-small}
 
 -- ---- the word at a position
 
@@ -71,7 +52,7 @@ begun-U (suc f) (suc i) a e q r l =
       done = 0 ∷ [];
       left = suc f;
       whole = at-U f i b ∙ ap (λ (w : List ℕ). 0 ∷ w) (unranked-at (suc f) 1 f i (omega arith) b);
-      at-is = refl;
+      next-is = refl;
       list-is = over-one [] a 0 0 refl (omega arith);
       enough = omega arith;
       room = omega arith;
@@ -104,7 +85,7 @@ begun-T n p a e q r l = let s = T-some n p e q l in go n p e (q .0) r l (s .0) (
           done = 1 ∷ [];
           left = suc (suc (suc f));
           whole = ap (wordAt (suc (suc (suc f)))) z ∙ at-T f (p - 1 - ways 1 (suc (suc f))) b′ ∙ ap (λ (w : List ℕ). 1 ∷ w) (unranked-at (suc (suc (suc f))) 3 f (p - 1 - ways 1 (suc (suc f))) (omega arith) b′);
-          at-is = refl;
+          next-is = refl;
           list-is = over-one [] a 0 1 refl (omega arith);
           enough = omega arith;
           room = omega arith;

@@ -2,7 +2,7 @@
 // where the word differs from that of the row before.
 use lists::fill_from;
 use words_respelling::respell;
-use words_spelling::LabelCounts;
+use words_spelling_events::LabelCounts;
 ghost use Prim.Native.Nat.{_≤_};
 ghost use Rattle.words_respelling.specs.SpelledSoFar.{ListedWord, ScratchLengths, SpelledSoFar, SharedBeginning};
 ghost use Rattle.run_row.specs.Row.{RowRoom, RowBegins, RowWritten};

@@ -1,5 +1,4 @@
 // The diagram of a word of a listed size (1 to 50), written straight into the lent lists, event by event.
-pub use words_spelling_events::LabelCounts;
 use words_spelling_events::begin;
 use words_spelling_events::event;
 ghost use mathlib.Core.Path.{_≡_};

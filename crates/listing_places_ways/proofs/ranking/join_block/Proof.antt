@@ -1,9 +1,9 @@
 -- `join_block` adds up the blocks before Jd; the sum is below a number of ways in the table, so it fits.
 use borrow.Author.Needs.{needs}
 use native.Mathlib.Omega.{arith}
-use Rattle.listing_places.proofs.Passing.{passed-J, sum-J}
-use Rattle.listing_places.proofs.ranking.join_block.Statement.{statement}
-use Rattle.listing_places.proofs.ranking.join_block.Tie as tie
+use Rattle.listing_places_ways.proofs.Passing.{passed-J, sum-J}
+use Rattle.listing_places_ways.proofs.ranking.join_block.Statement.{statement}
+use Rattle.listing_places_ways.proofs.ranking.join_block.Tie as tie
 
 ways-requires : tie.Need-ways-requires
 ways-requires c κs = search needs

@@ -9,8 +9,8 @@ use Rattle.listing.specs.Ranking.{waysF, waysB, rank}
 use Rattle.listing.proofs.Completions.{pre-le}
 use Rattle.listing.proofs.Ranking.{placed}
 use Rattle.listing_table.proofs.Table.{ways-small}
-use Rattle.listing_places.specs.Steps.{Passed}
-use Rattle.listing_places.proofs.Choices.{lowered}
+use Rattle.listing_places_ways.specs.Steps.{Passed}
+use Rattle.listing_places_ways.proofs.Choices.{lowered}
 
 -- what a word that fits says of the height and the labels free
 pub height-some : (height f x : ℕ) (w : List ℕ) → Fits height f (x ∷ w) → 1 ≤ height

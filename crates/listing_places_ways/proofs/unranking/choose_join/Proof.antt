@@ -2,9 +2,9 @@
 use borrow.Author.Needs.{needs}
 use mathlib.Core.Path.{refl}
 use native.Mathlib.Omega.{arith}
-use Rattle.listing_places.proofs.EventBlocks.{block-some, block-place}
-use Rattle.listing_places.proofs.unranking.choose_join.Statement.{statement}
-use Rattle.listing_places.proofs.unranking.choose_join.Tie as tie
+use Rattle.listing_places_ways.proofs.EventBlocks.{block-some, block-place}
+use Rattle.listing_places_ways.proofs.unranking.choose_join.Statement.{statement}
+use Rattle.listing_places_ways.proofs.unranking.choose_join.Tie as tie
 
 sub-ways : tie.Need-sub-ways
 sub-ways c = let i = block-place _ _ _ (c .pre .1) in omega arith

@@ -4,9 +4,9 @@ use mathlib.Core.Path.{sym, _∙_}
 use Prim.Native.Nat.{_-_}
 use native.Mathlib.Omega.{arith}
 use Rattle.listing_table.proofs.Table.{ways-small}
-use Rattle.listing_places.proofs.Places.{count-few, count-more}
-use Rattle.listing_places.proofs.count_of.Statement.{statement}
-use Rattle.listing_places.proofs.count_of.Tie as tie
+use Rattle.listing_places_count.proofs.Count.{count-few, count-more}
+use Rattle.listing_places_count.proofs.count_of.Statement.{statement}
+use Rattle.listing_places_count.proofs.count_of.Tie as tie
 
 sub-ways : tie.Need-sub-ways
 sub-ways c = search needs

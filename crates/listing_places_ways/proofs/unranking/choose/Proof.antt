@@ -3,9 +3,9 @@ use borrow.Author.Needs.{needs}
 use mathlib.Core.Path.{_≡_, refl}
 use Prim.Native.Nat.{ℕ, suc, _-_, _≤_}
 use native.Mathlib.Omega.{arith}
-use Rattle.listing_places.proofs.Choices.{found-W, found-F, found-B, jump-within, found-J}
-use Rattle.listing_places.proofs.unranking.choose.Statement.{statement}
-use Rattle.listing_places.proofs.unranking.choose.Tie as tie
+use Rattle.listing_places_ways.proofs.Choices.{found-W, found-F, found-B, jump-within, found-J}
+use Rattle.listing_places_ways.proofs.unranking.choose.Statement.{statement}
+use Rattle.listing_places_ways.proofs.unranking.choose.Tie as tie
 
 popped : (height : ℕ) → 1 ≤ height → height ≡ suc (height - 1)
 popped height l = omega arith

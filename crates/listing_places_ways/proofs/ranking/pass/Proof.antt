@@ -6,9 +6,9 @@ use Prim.Native.Nat.{ℕ, suc, _-_}
 use native.Mathlib.Omega.{arith}
 use Rattle.words.specs.Shape.{Fits}
 use Rattle.words_spelling_events.proofs.Lists.{jump-item}
-use Rattle.listing_places.proofs.Passing.{height-some, passed-W, free-F, passed-F, free-B, passed-B, sum-B, item-J, from-J}
-use Rattle.listing_places.proofs.ranking.pass.Statement.{statement}
-use Rattle.listing_places.proofs.ranking.pass.Tie as tie
+use Rattle.listing_places_ways.proofs.Passing.{height-some, passed-W, free-F, passed-F, free-B, passed-B, sum-B, item-J, from-J}
+use Rattle.listing_places_ways.proofs.ranking.pass.Statement.{statement}
+use Rattle.listing_places_ways.proofs.ranking.pass.Tie as tie
 
 popped : (height f x : ℕ) (w : List ℕ) → Fits height f (x ∷ w) → height ≡ suc (height - 1)
 popped height f x w a = let i = height-some height f x w a in omega arith

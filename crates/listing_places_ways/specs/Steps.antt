@@ -2,7 +2,7 @@
 -- their numbers of ways.
 --
 --   Chosen height free place item ..    the way to go on at the place begins with the item; what follows is the one at place′ after it
---   Unranking W a b at ..               of the word W the items before `at` are written over the beginning of the list a, giving b;
+--   Unranking W a b next ..             of the word W the items before the place `next` are written over the beginning of the list a, giving b;
 --                                       the others are the way to go on at the place
 --   Passed height free item w ..        of the ways to go on, `before` come before all that begin with the item
 use mathlib.Core.Path.{_≡_}
@@ -20,15 +20,15 @@ pub record Chosen (height free place item height′ free′ place′ : ℕ) : Ty
   pub within : place′ < ways height′ free′
   pub falls : height′ + free′ < height + free
 
-pub record Unranking (W a b : List ℕ) (at height free place : ℕ) : Type 0 where
+pub record Unranking (W a b : List ℕ) (next height free place : ℕ) : Type 0 where
   pub done : List ℕ
   -- a bound on the items to come
   pub left : ℕ
   pub whole : W ≡ done ++ unrank left height free place
-  pub at-is : at ≡ length done
+  pub next-is : next ≡ length done
   pub list-is : b ≡ overwrite done a
   pub enough : height + free ≤ left
-  pub room : at + left ≤ length a
+  pub room : next + left ≤ length a
   pub region : 3 * height + free ≤ 56
   pub within : place < ways height free
 

@@ -2,9 +2,9 @@
 use borrow.Author.Needs.{needs}
 use mathlib.Core.Path.{sym, _∙_}
 use native.Mathlib.Omega.{arith}
-use Rattle.listing_places.proofs.EventBlocks.{waysF-few, waysF-more}
-use Rattle.listing_places.proofs.blocks.ways_f.Statement.{statement}
-use Rattle.listing_places.proofs.blocks.ways_f.Tie as tie
+use Rattle.listing_places_ways.proofs.EventBlocks.{waysF-few, waysF-more}
+use Rattle.listing_places_ways.proofs.blocks.ways_f.Statement.{statement}
+use Rattle.listing_places_ways.proofs.blocks.ways_f.Tie as tie
 
 returns : tie.Need-returns
 returns c = sym (waysF-few _ _ (c .if1 .taken))

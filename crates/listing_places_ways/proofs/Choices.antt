@@ -14,8 +14,8 @@ use Rattle.listing.specs.Listing.{ways}
 use Rattle.listing.specs.Ranking.{waysF, waysB, unrank}
 use Rattle.listing.proofs.Completions.{pre-le}
 use Rattle.listing.proofs.Ranking.{ways-parts}
-use Rattle.listing_places.specs.Steps.{Chosen, Unranking}
-use Rattle.listing_places.proofs.EventBlocks.{waysF-some, waysB-some, block-some, jump-divides}
+use Rattle.listing_places_ways.specs.Steps.{Chosen, Unranking}
+use Rattle.listing_places_ways.proofs.EventBlocks.{waysF-some, waysB-some, block-some, jump-divides}
 
 nothing : (m f i : ℕ) → unrank m 0 f i ≡ []
 unfolding unrank
@@ -98,37 +98,37 @@ module _ (height h f i a b c : ℕ) (e : height ≡ suc h) (r : 3 * height + f �
 
 -- ---- what is written
 
-module _ (W a b : List ℕ) (at height free place : ℕ) (U : Unranking W a b at height free place) where
+module _ (W a b : List ℕ) (next height free place : ℕ) (U : Unranking W a b next height free place) where
   same-long : length b ≡ length a
   same-long =
       let i = U .room in
-      let j = U .at-is in
+      let j = U .next-is in
       ap length (U .list-is) ∙ over-length (U .done) a (omega arith)
 
-  pub unranking-room : 0 < height → at < length b
+  pub unranking-room : 0 < height → next < length b
   unranking-room l =
       let i = U .room in
       let j = U .enough in
       rw same-long (omega arith)
 
-  pub unranking-more : (item height′ free′ place′ : ℕ) → 0 < height → Chosen height free place item height′ free′ place′ → Unranking W a (set b at item) (at + 1) height′ free′ place′
+  pub unranking-more : (item height′ free′ place′ : ℕ) → 0 < height → Chosen height free place item height′ free′ place′ → Unranking W a (set b next item) (next + 1) height′ free′ place′
   unranking-more item height′ free′ place′ l C = go (U .left) (U .whole) (U .enough) (U .room)
     where
-      go : (m : ℕ) → W ≡ U .done ++ unrank m height free place → height + free ≤ m → at + m ≤ length a → Unranking W a (set b at item) (at + 1) height′ free′ place′
+      go : (m : ℕ) → W ≡ U .done ++ unrank m height free place → height + free ≤ m → next + m ≤ length a → Unranking W a (set b next item) (next + 1) height′ free′ place′
       go zero w n r = absurd (omega arith)
       go (suc m) w n r = record {
         done = U .done ++ (item ∷ []);
         left = m;
         whole = w ∙ rw (C .first m, append-assoc);
-        at-is = let z = U .at-is in rw length-1 (omega arith);
-        list-is = rw (U .list-is) (over-one (U .done) a at item (U .at-is) (omega arith));
+        next-is = let z = U .next-is in rw length-1 (omega arith);
+        list-is = rw (U .list-is) (over-one (U .done) a next item (U .next-is) (omega arith));
         enough = let z = C .falls in omega arith;
         room = omega arith;
         region = C .region;
         within = C .within;
       }
 
-  pub unranking-end : height ≡ 0 → (at ≡ length W) × (b ≡ overwrite W a)
+  pub unranking-end : height ≡ 0 → (next ≡ length W) × (b ≡ overwrite W a)
   unranking-end e =
       let q : W ≡ U .done = U .whole ∙ rw (e, nothing (U .left) free place) (append-nil (U .done)) in
-      rw q (U .at-is, U .list-is)
+      rw q (U .next-is, U .list-is)

@@ -5,9 +5,9 @@ use native.Mathlib.Omega.{arith}
 use lib.ListN.{length, drop, drop-of-length-le}
 use Rattle.listing.specs.Ranking.{rank}
 use Rattle.words_spelling_events.proofs.Lists.{next-item}
-use Rattle.listing_places.proofs.Passing.{rank-small, Ranked, ranked-more, ranked-end}
-use Rattle.listing_places.proofs.ranking.rank.Statement.{statement}
-use Rattle.listing_places.proofs.ranking.rank.Tie as tie
+use Rattle.listing_places_ways.proofs.Passing.{rank-small, Ranked, ranked-more, ranked-end}
+use Rattle.listing_places_ways.proofs.ranking.rank.Statement.{statement}
+use Rattle.listing_places_ways.proofs.ranking.rank.Tie as tie
 
 abbrev Inv-loop : tie.InvT-loop
 Inv-loop items height free place₀ h₀ f₀ i₀ place h f i = (i ≤ length items) × Ranked (rank height free items) place h f (drop i items)

@@ -4,16 +4,16 @@ use mathlib.Core.List.{List}
 use Prim.Native.Nat.{ℕ, _+_}
 use native.Mathlib.Omega.{arith}
 use lib.ListN.{length, length-set}
-use Rattle.listing_places.specs.Steps.{Unranking}
-use Rattle.listing_places.proofs.Choices.{unranking-room, unranking-more, unranking-end}
-use Rattle.listing_places.proofs.unranking.unrank.Statement.{statement}
-use Rattle.listing_places.proofs.unranking.unrank.Tie as tie
+use Rattle.listing_places_ways.specs.Steps.{Unranking}
+use Rattle.listing_places_ways.proofs.Choices.{unranking-room, unranking-more, unranking-end}
+use Rattle.listing_places_ways.proofs.unranking.unrank.Statement.{statement}
+use Rattle.listing_places_ways.proofs.unranking.unrank.Tie as tie
 
 abbrev Inv-loop : tie.InvT-loop
-Inv-loop word₀ at height free place i₀ h₀ f₀ p₀ word i h f p = (length word ≡ length word₀) × ((W a : List ℕ) → Unranking W a word₀ at height free place → Unranking W a word i h f p)
+Inv-loop word₀ next height free place i₀ h₀ f₀ p₀ word i h f p = (length word ≡ length word₀) × ((W a : List ℕ) → Unranking W a word₀ next height free place → Unranking W a word i h f p)
 
 abbrev μ-loop : tie.MeasureT-loop
-μ-loop word₀ at height free place i₀ h₀ f₀ p₀ word i h f p = h + f
+μ-loop word₀ next height free place i₀ h₀ f₀ p₀ word i h f p = h + f
 
 loop-holds : tie.Need-loop-holds Inv-loop μ-loop
 loop-holds c = (refl, λ W a U. U)

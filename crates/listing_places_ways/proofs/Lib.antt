@@ -1,0 +1,3 @@
+pub mod EventBlocks
+pub mod Choices
+pub mod Passing
