@@ -21,7 +21,7 @@ pub fn report<'a>(h: Heads, nexts: &'a [u64], tickets: &'a [u64], expiries: &'a 
         return Reporting::Refused(50);
     }
     Reporting::Progress {
-        committed: committed(h, nexts, tickets, expiries),
-        complete: complete(h, nexts, tickets, expiries),
+        committed: committed(h, nexts),
+        complete: complete(h, nexts),
     }
 }

@@ -10,6 +10,36 @@ use listing_ranking::Entry;
 ghost use Rattle.book.specs.Taken.{TakePromise};
 ghost use Rattle.book.specs.Changes.{changed, Placed};
 ghost use Rattle.book_entries.specs.Entries.{bookWith, Full};
+ghost use Rattle.book_decisions_take.specs.Takes.{GivenOf};
+
+// Writes the diagram at the next position of share j, if the lists have room.
+fn given(
+    h: Heads,
+    j: u64,
+    position: u64,
+    tick: u64,
+    s0: &mut [u16],
+    s1: &mut [u16],
+    word: &mut [u16],
+) -> TakeChoice
+    ensures { λ r. ⌜ GivenOf (h .size) j position tick (now (s0 .entry)) (now (s1 .entry)) (now (word .entry)) (r .answer) (r .change)
+        (now (s0 .exit)) (now (s1 .exit)) (now (word .exit)) ⌝ }
+{
+    match listing_ranking::diagram_at(h.size, position, s0, s1, word) {
+        Entry::Refused(k) => TakeChoice {
+            answer: Taking::Refused(k),
+            change: Change::Nothing,
+        },
+        Entry::Length(m) => TakeChoice {
+            answer: Taking::Given {
+                share: j,
+                position,
+                length: m as u64,
+            },
+            change: Change::Latest(tick),
+        },
+    }
+}
 
 pub fn take<'a>(
     h: Heads,
@@ -33,22 +63,6 @@ pub fn take<'a>(
             answer: Taking::Refused(k),
             change: Change::Nothing,
         },
-        Asked::Share(j) => {
-            let position = entry(nexts, j);
-            match listing_ranking::diagram_at(h.size, position, s0, s1, word) {
-                Entry::Refused(k) => TakeChoice {
-                    answer: Taking::Refused(k),
-                    change: Change::Nothing,
-                },
-                Entry::Length(m) => TakeChoice {
-                    answer: Taking::Given {
-                        share: j,
-                        position,
-                        length: m as u64,
-                    },
-                    change: Change::Latest(tick),
-                },
-            }
-        }
+        Asked::Share(j) => given(h, j, entry(nexts, j), tick, s0, s1, word),
     }
 }

@@ -5,6 +5,7 @@ use mathlib.Core.Bool.{true}
 use borrow.Author.Tests.{not-true, not-false}
 use Rattle.book.specs.Valid.{valid}
 use Rattle.book.specs.Calls.{report-answer}
+use Rattle.book.proofs.ValidBook.{valid-facts}
 use denote.Ref.{now}
 use Rattle.book.specs.declared.types.Book.{Book}
 use Rattle.book_entries.specs.Entries.{bookWith}
@@ -30,13 +31,23 @@ returns : tie.Need-returns
 returns c = unfold report-answer in (rw (sym (c .before .valid .ensures) ∙ not-true _ (c .if1 .taken)))
 
 committed-requires : tie.Need-committed-requires
-committed-requires c κs = (is-valid c, c .before .before .before .before .before .pre)
+committed-requires c κs =
+    let s = c .before .before .before .before .before in
+    let S = valid-facts (lent s) (is-valid c) in
+    (S .size-in, S .shares-in, s .pre .0, λ j i. (S .share j i .from, S .share j i .to))
 
 complete-requires : tie.Need-complete-requires
-complete-requires c κs = (is-valid (c .before), c .before .before .before .before .before .before .pre)
+complete-requires c κs =
+    let s = c .before .before .before .before .before .before in
+    let S = valid-facts (lent s) (is-valid (c .before)) in
+    (S .size-in, S .shares-in, s .pre .0)
 
 returns-2 : tie.Need-returns-2
-returns-2 c = unfold report-answer in (rw (is-valid (c .before .before), c .complete .ensures, c .before .committed .ensures))
+returns-2 c =
+    let s = c .before .before .before .before .before .before .before in
+    let t = now (s .args .tickets) in
+    let e = now (s .args .expiries) in
+    unfold report-answer in (rw (is-valid (c .before .before), c .complete .ensures t e, c .before .committed .ensures t e))
 
 pub report-spec : {M : Type 1} → statement M
 report-spec =
