@@ -13,8 +13,8 @@ use Rattle.run_steps.specs.Promises.{RunAt, RunFinished, runAfter}
 use Rattle.run_steps.proofs.Standing.{stands-size}
 use Rattle.run_blocks.specs.Promises.{RunAfterRows, ListPromise, ListMarkedPromise}
 use Rattle.run_blocks.proofs.Whole.{marked-lists}
-use Rattle.run_blocks.specs.declared.Listing.{Listing}
-use Rattle.run_blocks.specs.declared.Listing.the-variants.{Rows, Refused}
+use Rattle.run_blocks_answers.specs.declared.Listing.{Listing}
+use Rattle.run_blocks_answers.specs.declared.Listing.the-variants.{Rows, Refused}
 use Rattle.kaldvemir_layout_run.specs.Layout.{run-of, run-numbers}
 use Rattle.kaldvemir_layout_run.proofs.Rows.{run-again}
 use Rattle.kaldvemir_answers_run.specs.Runs.{list-numbers, FitsRows}

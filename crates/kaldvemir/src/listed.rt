@@ -45,7 +45,7 @@ pub extern "C" fn kaldvemir_position(s0: &[u16], s1: &[u16], root: u64, position
         × (r ≡ answers.located-number a)
         × (now (position .exit) ≡ answers.located-position a (now (position .entry)))) ⌝ }
 {
-    let a = listing_ranking::position(s0, s1, root);
+    let a = listing_position::position(s0, s1, root);
     place_answer(a, position)
 }
 

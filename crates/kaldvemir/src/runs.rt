@@ -9,7 +9,7 @@ ghost use Rattle.run_answers.specs.declared.Run.{Run};
 ghost use Rattle.run_answers.specs.declared.Beginning.{Beginning};
 ghost use Rattle.run_answers.specs.declared.Stepping.{Stepping};
 ghost use Rattle.run_blocks.specs.Promises.{ListPromise, ListMarkedPromise};
-ghost use Rattle.run_blocks.specs.declared.Listing.{Listing};
+ghost use Rattle.run_blocks_answers.specs.declared.Listing.{Listing};
 ghost use Rattle.kaldvemir_answers.specs.Answers as answers;
 ghost use Rattle.kaldvemir_layout_run.specs.Layout.{run-of, run-numbers};
 ghost use Rattle.kaldvemir_layout_run.specs.Layout as layout;

@@ -8,8 +8,8 @@ use lib.ListN.{getD}
 use Rattle.run_answers.specs.declared.Run.{Run}
 use Rattle.run_answers.specs.declared.Stepping.{Stepping}
 use Rattle.run_answers.specs.declared.Stepping.the-variants as stepping
-use Rattle.run_blocks.specs.declared.Listing.{Listing}
-use Rattle.run_blocks.specs.declared.Listing.the-variants as listing
+use Rattle.run_blocks_answers.specs.declared.Listing.{Listing}
+use Rattle.run_blocks_answers.specs.declared.Listing.the-variants as listing
 
 abbrev pub step-numbers : Stepping → List ℕ → List ℕ → List ℕ
 step-numbers (stepping.Length m) items l = getD l 0 0 ∷ 1 ∷ m ∷ items

@@ -1,13 +1,13 @@
 // The answers of a run's operations. An accepted call's run is put in the place of the lent one; of the lent numbers only the size is kept.
 use kaldvemir_layout::long;
 use kaldvemir_layout_run::put_back;
-use run_blocks::Listing;
-use run_steps::Run;
-use run_steps::Stepping;
+use run_blocks_answers::Listing;
+use run_answers::Run;
+use run_answers::Stepping;
 ghost use mathlib.Core.Path.{_≡_};
 ghost use lib.ListN.{length};
-ghost use Rattle.run_blocks.specs.Answers.{list-number, list-rows};
-ghost use Rattle.run_steps.specs.Answers.{step-number, step-length};
+ghost use Rattle.run_blocks_answers.specs.Answers.{list-number, list-rows};
+ghost use Rattle.run_answers.specs.Answers.{step-number, step-length};
 ghost use Rattle.kaldvemir_answers_run.specs.Runs.{step-numbers, list-numbers, FitsRows};
 
 pub fn step_answer(a: Stepping, items: [u16; 51], run: &mut [u16; 54], written: &mut u64) -> u16

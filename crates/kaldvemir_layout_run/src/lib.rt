@@ -1,6 +1,6 @@
 // The run as 54 numbers.
 use kaldvemir_layout::long;
-use run_steps::Run;
+use run_answers::Run;
 ghost use mathlib.Core.Path.{_≡_};
 ghost use mathlib.Core.List.{_∷_};
 ghost use lib.ListN.{length, getD, take, drop};

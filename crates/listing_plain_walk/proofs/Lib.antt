@@ -1,4 +1,3 @@
-pub mod Rest
 pub mod Texts
 pub mod Steps
 pub mod Sizes

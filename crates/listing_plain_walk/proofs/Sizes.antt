@@ -18,7 +18,7 @@ use Rattle.listing.specs.Listing.{prefixEach, completions, listing}
 use Rattle.listing_plain_walk.specs.Promises.{concatenated, PlainWalkPromise}
 use Rattle.listing_plain_walk.specs.declared.Walked.the-variants.{Numbers}
 use Rattle.listing_plain_walk.specs.Walk.{allCompletions, concatenatedBehind, WalkRoom, WalkAdded}
-use Rattle.listing_plain_walk.proofs.Rest.{rest-by}
+use Rattle.listing_plain_walk_events.proofs.Rest.{rest-by}
 use Rattle.listing_plain_walk.proofs.Texts.{text-append, text-each}
 
 -- ---- one computed test

@@ -12,7 +12,7 @@ use Rattle.lists.specs.Overwriting.{overwriteFrom}
 use Rattle.lists.proofs.Overwriting.{from-none, from-from}
 use Rattle.listing.specs.Listing.{prefixEach}
 use Rattle.listing_plain_walk.specs.Walk.{allCompletions, completionsAfter, concatenatedBehind, LeadsTo, WalkRoom, WalkAdded}
-use Rattle.listing_plain_walk.proofs.Rest.{rest-end, rest-dead, begun, begun-all}
+use Rattle.listing_plain_walk_events.proofs.Rest.{rest-end, rest-dead, begun, begun-all}
 use Rattle.listing_plain_walk.proofs.Texts.{text-append, text-each, text-none, text-one}
 
 -- ---- end or pop

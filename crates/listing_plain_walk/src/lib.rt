@@ -1,11 +1,12 @@
 // The plain walk: all words of a small size, one after another, by backtracking enumeration.
+use listing_plain_walk_events::after_event;
 use lists::fill_from;
 ghost use mathlib.Core.Path.{_≡_};
-ghost use Prim.Native.Nat.{suc, _+_, _≤_, _<_};
+ghost use Prim.Native.Nat.{suc, _+_, _≤_};
 ghost use lib.ListN.{length, take};
 ghost use Rattle.lists.specs.Overwriting.{overwriteFrom};
 ghost use Rattle.listing_plain_walk.specs.Promises.{PlainWalkPromise};
-ghost use Rattle.listing_plain_walk.specs.Walk.{LeadsTo, WalkRoom, WalkAdded};
+ghost use Rattle.listing_plain_walk.specs.Walk.{WalkRoom, WalkAdded};
 
 pub enum Walked {
     Numbers(usize),
@@ -19,38 +20,6 @@ fn write(out: &mut [u16], place: usize, word: &[u16], len: usize) -> usize
 {
     fill_from(out, place, &word[..len]);
     place + len
-}
-
-// The height of the stack and the number of labels free.
-struct Left {
-    h: u16,
-    f: u16,
-}
-
-// What the event e leaves, with h edges pending besides the one it popped. Where F or B lacks labels, that is an empty stack with
-// a label free: a dead end, so the branching needs no test.
-fn after_event(e: u16, h: u16, f: u16) -> Left
-    requires { ⌜ (e < h + 3) × (h < 1000) ⌝ }
-    ensures { λ r. ⌜ LeadsTo e h f (r .h) (r .f) ⌝ }
-{
-    match e {
-        0 => Left { h, f },
-        1 => {
-            if 3 <= f {
-                Left { h: h + 2, f: f - 3 }
-            } else {
-                Left { h: 0, f: 1 }
-            }
-        }
-        2 => {
-            if 1 <= f {
-                Left { h, f: f - 1 }
-            } else {
-                Left { h: 0, f: 1 }
-            }
-        }
-        _ => Left { h: h - 1, f },
-    }
 }
 
 // Branches on the events W, F, B, J0, J1, .. of an edge that is popped already; h edges are pending besides it.

@@ -1,10 +1,7 @@
-// Count, diagram at a position, position of a diagram: the operations over the ranking and unranking of words.
+// Count and diagram at a position, and what these two and position of a diagram (crate listing_position) answer.
 use diagrams::Diagram;
-use labelling_operations::Relabelling;
 use listing_places::count_of;
-use listing_places::ranking::position_of;
 use listing_places::unranking::word_at;
-use lists::to_index;
 ghost use mathlib.Core.Path.{_≡_};
 ghost use lib.ListN.{length};
 ghost use Rattle.lists.specs.Ranges.{OneTo};
@@ -12,7 +9,7 @@ ghost use Rattle.words.specs.Outputs.{Short, Written};
 ghost use Rattle.listing.specs.Listing.{count};
 ghost use Rattle.listing.specs.Position.{wordAt};
 ghost use Rattle.listing.specs.Diagrams.{diagramAt};
-ghost use Rattle.listing_ranking.specs.Promises.{CountPromise, DiagramAtPromise, PositionPromise};
+ghost use Rattle.listing_ranking.specs.Promises.{CountPromise, DiagramAtPromise};
 
 pub enum Total {
     Number(u64),
@@ -81,27 +78,4 @@ pub fn diagram_at(n: u64, p: u64, s0: &mut [u16], s1: &mut [u16], word: &mut [u1
         return Entry::Refused(9);
     }
     Entry::Length(write_at(n, p, s0, s1, word))
-}
-
-// The position of a diagram: that of its word among the words of its size. Refuses 1 to 8 as check does, then 31. The lists lent to
-// relabel hold 50 edges, so that its refusal of short lists, which comes after 1 to 8, is that of a size above 50.
-pub fn position(s0: &[u16], s1: &[u16], root: u64) -> Place
-    ensures { λ r. ⌜ PositionPromise (now (s0 .entry)) (now (s1 .entry)) root r ⌝ }
-{
-    let mut t0 = [0u16; Diagram::MAX_LISTED];
-    let mut t1 = [0u16; Diagram::MAX_LISTED];
-    let mut word = [0u16; Diagram::MAX_LISTED + 1];
-    let relabelled = labelling_operations::relabel(s0, s1, root, &mut t0, &mut t1, &mut word);
-    match relabelled {
-        Relabelling::Refused(k) => {
-            if k == 9 {
-                return Place::Refused(31);
-            }
-            Place::Refused(k)
-        }
-        Relabelling::Length(length) => {
-            let m = to_index(length);
-            Place::Number(position_of(s0.len(), &word[..m]))
-        }
-    }
 }

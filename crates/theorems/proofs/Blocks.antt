@@ -20,7 +20,7 @@ use Rattle.run_answers.specs.declared.Stepping.{Stepping}
 use Rattle.run_answers.specs.declared.Stepping.the-variants.{Length, End, Refused}
 use Rattle.run_steps.specs.Promises.{runAfter, finished, RunAt, RunFinished, RefusedStep}
 use Rattle.run_steps.proofs.Standing.{stands-size}
-use Rattle.run_blocks.specs.declared.Listing.the-variants as listing
+use Rattle.run_blocks_answers.specs.declared.Listing.the-variants as listing
 use Rattle.run_blocks.specs.Rows.{blacks, whites, flatWords, lengths, MarkOf}
 use Rattle.run_blocks.specs.Promises.{RunAfterRows, NoRows, RowsGiven, RefusedList, MarkedRowsGiven}
 use Rattle.theorems.specs.SecondList.{Step, Happened, History, written, Row, rowOf, rows, rowAt}

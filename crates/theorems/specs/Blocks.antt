@@ -28,8 +28,8 @@ use Rattle.run_answers.specs.declared.Run.{Run}
 use Rattle.run_answers.specs.declared.Beginning.the-variants.{Begun}
 use Rattle.run_answers.specs.declared.Stepping.the-variants as stepping
 use Rattle.run_steps.specs.Promises.{BeginPromise}
-use Rattle.run_blocks.specs.declared.Listing.{Listing}
-use Rattle.run_blocks.specs.declared.Listing.the-variants as listing
+use Rattle.run_blocks_answers.specs.declared.Listing.{Listing}
+use Rattle.run_blocks_answers.specs.declared.Listing.the-variants as listing
 use Rattle.run_blocks.specs.Rows.{MarkOf}
 use Rattle.run_blocks.specs.Promises.{ListPromise, ListMarkedPromise}
 use Rattle.theorems.specs.SecondList.{Step, Happened, History, written, Row, rows, rowAt}

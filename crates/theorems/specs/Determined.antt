@@ -38,7 +38,7 @@ use Rattle.run_answers.specs.declared.Run.{Run}
 use Rattle.run_answers.specs.declared.Beginning.{Beginning}
 use Rattle.run_answers.specs.declared.Stepping.{Stepping}
 use Rattle.run_steps.specs.Promises.{BeginPromise, StepPromise}
-use Rattle.run_blocks.specs.declared.Listing.{Listing}
+use Rattle.run_blocks_answers.specs.declared.Listing.{Listing}
 use Rattle.run_blocks.specs.Promises.{ListPromise, ListMarkedPromise}
 use Rattle.book.specs.declared.types.Book.{Book}
 use Rattle.book.specs.declared.types.Taking.{Taking}

@@ -3,7 +3,7 @@ use mathlib.Core.Path.{refl}
 use native.Mathlib.Omega.{arith}
 use borrow.Author.Needs.{needs}
 use Rattle.kaldvemir_answers_run.specs.Runs.{FitsRows}
-use Rattle.run_blocks.specs.declared.Listing.the-variants.{Rows}
+use Rattle.run_blocks_answers.specs.declared.Listing.the-variants.{Rows}
 use Rattle.kaldvemir_answers_run.proofs.list_answer.Statement.{statement}
 use Rattle.kaldvemir_answers_run.proofs.list_answer.Tie as tie
 

@@ -12,7 +12,7 @@ use Rattle.listing_plain_walk.proofs.+branch+end_or_pop.Lts-branch as b
 use Rattle.listing_plain_walk.proofs.end_or_pop.Reads as end-or-pop
 use Rattle.listing_plain_walk.proofs.end_or_pop.Kinds as end-or-pop-kinds
 use Rattle.listing_plain_walk.proofs.+branch+end_or_pop.Lts-end_or_pop as end-or-pop-lts
-use Rattle.listing_plain_walk.proofs.after_event.Reads as after-reads
+use Rattle.listing_plain_walk_events.proofs.after_event.Reads as after-reads
 use Rattle.listing_plain_walk.proofs.write.Reads as write-reads
 use Rattle.listing_plain_walk.proofs.+branch+end_or_pop.{statement}
 use Rattle.listing_plain_walk.proofs.+branch+end_or_pop.Tie.{close}

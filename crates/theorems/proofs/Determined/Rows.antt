@@ -18,8 +18,8 @@ use Rattle.run_answers.specs.declared.Beginning.the-variants as beginning
 use Rattle.run_answers.specs.declared.Stepping.{Stepping}
 use Rattle.run_answers.specs.declared.Stepping.the-variants as stepping
 use Rattle.run_steps.specs.Promises.{runAfter, RunAt, RunFinished, BeginPromise, StepPromise}
-use Rattle.run_blocks.specs.declared.Listing.{Listing}
-use Rattle.run_blocks.specs.declared.Listing.the-variants.{Rows, Refused}
+use Rattle.run_blocks_answers.specs.declared.Listing.{Listing}
+use Rattle.run_blocks_answers.specs.declared.Listing.the-variants.{Rows, Refused}
 use Rattle.run_blocks.specs.Rows.{MarkOf, Marks, MarksWritten}
 use Rattle.run_blocks.specs.Promises.{ShortRows, Block, RunAfterRows, ListsUntouched, RefusedList, ListPromise, ListMarkedPromise}
 use Rattle.theorems.specs.Determined.{SameLists}
