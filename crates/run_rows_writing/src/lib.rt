@@ -2,7 +2,7 @@
 use listing_successor::successor;
 use run_answers::Run;
 use run_row::spell_row;
-use words_spelling::LabelCounts;
+use words_spelling_events::LabelCounts;
 ghost use mathlib.Core.Path.{_≡_};
 ghost use mathlib.Core.Logic.{_≢_, _⊎_};
 ghost use Prim.Native.Nat.{ℕ};
