@@ -1,20 +1,9 @@
-// Words, numbers and lists, read from the bytes of a line.
+// Numbers and lists, read from the bytes of a word.
 //
-// A line is words parted by one space. A number is decimal digits, at least one, and fits 64 bits. A list is numbers up to 65,535 parted
-// by commas; `-` is the empty list. Whatever else is read is no number and no list, and is said to be bad.
+// A number is decimal digits, at least one, and fits 64 bits. A list is numbers up to 65,535 parted by commas; `-` is the empty list.
+// Whatever else is read is no number and no list, and is said to be bad.
 ghost use Prim.Native.Nat.{_≤_};
 ghost use lib.ListN.{length};
-
-// The most words that split tells apart.
-pub const MAX_WORDS: usize = 8;
-
-// Where each word of a line begins and ends, and how many words there are; of a line with more than MAX_WORDS, the first ones and
-// one more than MAX_WORDS.
-pub struct Words {
-    pub count: usize,
-    pub starts: [usize; MAX_WORDS],
-    pub ends: [usize; MAX_WORDS],
-}
 
 pub struct Parsed {
     pub good: bool,
@@ -24,54 +13,6 @@ pub struct Parsed {
 pub struct Listed {
     pub good: bool,
     pub length: usize,
-}
-
-// One word more.
-fn with_word(words: Words, start: usize, end: usize) -> Words {
-    let mut next = words;
-    let count = words.count;
-    if MAX_WORDS <= count {
-        next.count = MAX_WORDS + 1;
-        return next;
-    }
-    next.starts[count] = start;
-    next.ends[count] = end;
-    next.count = count + 1;
-    next
-}
-
-// The words of a line: one more than it has spaces, so that a space at its end or a second one in a row makes an empty word.
-pub fn split(line: &[u8]) -> Words {
-    let mut words = Words {
-        count: 0,
-        starts: [0; MAX_WORDS],
-        ends: [0; MAX_WORDS],
-    };
-    let mut start: usize = 0;
-    loop {
-        let end = bytes::scan::find(line, start, line.len(), b' ');
-        words = with_word(words, start, end);
-        if end == line.len() {
-            return words;
-        }
-        start = end + 1;
-    }
-}
-
-// Word k of a line, the first being 0. Where there is none it is empty, which is no name, no number and no list.
-pub fn word<'a>(line: &'a [u8], words: Words, k: usize) -> &'a [u8] {
-    if MAX_WORDS <= k {
-        return &line[0..0];
-    }
-    let start = words.starts[k];
-    let end = words.ends[k];
-    if line.len() < end {
-        return &line[0..0];
-    }
-    if end < start {
-        return &line[0..0];
-    }
-    &line[start..end]
 }
 
 pub fn is(word: &[u8], name: &[u8]) -> bool {

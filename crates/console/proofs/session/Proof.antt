@@ -1,25 +1,41 @@
--- `session` is safe and ends: what is kept lies within the input, and the turns that are left fall.
-use borrow.Author.Needs.{needs}
-use Prim.Native.Nat.{_-_, _≤_}
+-- `session` is safe and ends: the line found last lies within the input, and the turns that are left fall.
+use Prim.Native.Nat.{_≤_}
 use mathlib.Core.Path.{_≡_}
 use lib.ListN.{length}
+use Rattle.console_lines.specs.Lines.{Within}
+use borrow.Author.Needs.{needs}
 use Rattle.console.proofs.session.Statement.{statement}
 use Rattle.console.proofs.session.Tie as tie
 
 abbrev Inv-loop : tie.InvT-loop
-Inv-loop input₀ run₀ book₀ out₀ skips₀ have₀ turns₀ input run book out skips have turns = (have ≤ length input) × (length input ≡ length input₀) × (length out ≡ length out₀)
+Inv-loop input₀ run₀ book₀ out₀ lines₀ place₀ turns₀ input run book out lines place turns = Within lines (length input) × (length input ≡ length input₀) × (length out ≡ length out₀)
 
 abbrev μ-loop : tie.MeasureT-loop
-μ-loop input₀ run₀ book₀ out₀ skips₀ have₀ turns₀ input run book out skips have turns = turns
+μ-loop input₀ run₀ book₀ out₀ lines₀ place₀ turns₀ input run book out lines place turns = turns
+
+no-lines-requires : tie.Need-no-lines-requires Inv-loop μ-loop
+no-lines-requires c κs = search needs
 
 loop-holds : tie.Need-loop-holds Inv-loop μ-loop
 loop-holds c = search needs
 
-turn-requires : tie.Need-turn-requires Inv-loop μ-loop
-turn-requires c κs = search needs
+next-line-requires : tie.Need-next-line-requires Inv-loop μ-loop
+next-line-requires c κs = search needs
 
-answer-last-requires : tie.Need-answer-last-requires Inv-loop μ-loop
-answer-last-requires c κs = search needs
+sub-answer : tie.Need-sub-answer Inv-loop μ-loop
+sub-answer c = search needs
+
+part-answer-start : tie.Need-part-answer-start Inv-loop μ-loop
+part-answer-start c = search needs
+
+part-answer-end : tie.Need-part-answer-end Inv-loop μ-loop
+part-answer-end c = search needs
+
+answer-requires : tie.Need-answer-requires Inv-loop μ-loop
+answer-requires c κs = search needs
+
+written-requires : tie.Need-written-requires Inv-loop μ-loop
+written-requires c κs = search needs
 
 same-length : tie.Need-same-length Inv-loop μ-loop
 same-length c = search needs
@@ -54,9 +70,14 @@ session-spec =
     (tie.spec
     Inv-loop
     μ-loop
+    no-lines-requires
     loop-holds
-    turn-requires
-    answer-last-requires
+    next-line-requires
+    sub-answer
+    part-answer-start
+    part-answer-end
+    answer-requires
+    written-requires
     same-length
     same-length-2
     returns

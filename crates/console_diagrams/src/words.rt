@@ -1,0 +1,72 @@
+// The commands on words, on marks and on a size.
+use console_commands::arguments::marks_of;
+use console_replies::Reply;
+use console_replies::blocks::copy_into;
+use console_replies::chosen;
+use console_replies::error;
+use console_replies::listed;
+use console_replies::shown;
+use console_replies::valued;
+use kaldvemir::given::kaldvemir_all_reached;
+use kaldvemir::listed::kaldvemir_count;
+use kaldvemir::listed::kaldvemir_diagram_at;
+use kaldvemir::listed::kaldvemir_plain_walk;
+use kaldvemir::spelling::kaldvemir_lesser;
+use kaldvemir::spelling::kaldvemir_letters;
+use kaldvemir::spelling::kaldvemir_read_word;
+
+pub fn read(word: &[u16], s0: &mut [u16], s1: &mut [u16]) -> Reply {
+    let mut size: u64 = 0;
+    let refusal = kaldvemir_read_word(word, s0, s1, &mut size);
+    listed(refusal, 0, [size, size, 0, 0, 0])
+}
+
+// The number of the list that is handed back, and the list.
+pub fn lesser<'a>(a: &'a [u16], b: &'a [u16], out: &mut [u16]) -> Reply {
+    if kaldvemir_lesser(a, b) == 2 {
+        return listed(0, 2, [copy_into(b, out), 0, 0, 0, 0]);
+    }
+    listed(0, 1, [copy_into(a, out), 0, 0, 0, 0])
+}
+
+pub fn letters(word: &[u16], letters: &mut [u8]) -> Reply {
+    let mut length: u64 = 0;
+    let refusal = kaldvemir_letters(word, letters, &mut length);
+    listed(refusal, 0, [0, 0, 0, 0, length])
+}
+
+// Whether every number of a list is the mark 1; an error where one is no byte.
+pub fn reached(list: &[u16], marks: &mut [u8]) -> Reply {
+    let n = marks_of(list, marks);
+    if n < list.len() {
+        return error();
+    }
+    if kaldvemir_all_reached(&marks[0..n]) {
+        return chosen(1);
+    }
+    chosen(0)
+}
+
+pub fn count(size: u64) -> Reply {
+    let mut count: u64 = 0;
+    let refusal = kaldvemir_count(size, &mut count);
+    valued(refusal, count)
+}
+
+pub fn walk(size: u64, list: &mut [u16]) -> Reply {
+    let mut count: u64 = 0;
+    let refusal = kaldvemir_plain_walk(size, list, &mut count);
+    listed(refusal, count, [count, 0, 0, 0, 0])
+}
+
+pub fn diagram_at(
+    size: u64,
+    position: u64,
+    s0: &mut [u16],
+    s1: &mut [u16],
+    word: &mut [u16],
+) -> Reply {
+    let mut items: u64 = 0;
+    let refusal = kaldvemir_diagram_at(size, position, s0, s1, word, &mut items);
+    shown(refusal, size, items)
+}
