@@ -13,6 +13,7 @@ use lib.Seq.{drop-cons}
 use Rattle.lists.proofs.Tests.{lt?, lt-true, lt-false, leb-true, eqb-eq, eqb-ne}
 use Rattle.words.specs.Letters.{decimal}
 use Rattle.text_printing.specs.Printing.{Output, put, putAll, signedPieces, listPieces}
+use Rattle.text_printing.proofs.Printing.{put-all-append}
 use Rattle.console_replies.specs.declared.Reply.{Reply}
 use Rattle.console_answers.specs.Answers.{Lists, lists, isWithin, lettersPieces, bytesPieces, longList, numberPieces, fieldPieces, answerPieces}
 
@@ -45,11 +46,6 @@ pub fourth : (k : ℕ) (s t u v : List ℕ) → k < 4 → 3 ≤ k → v ≡ getD
 fourth k s t u v h l = let e : k ≡ 3 = omega arith in rw e
 
 -- ---- pieces
-
-put-both : (xs ys : List (List ℕ)) (o : Output) → putAll (xs ++ ys) o ≡ putAll ys (putAll xs o)
-unfolding putAll
-put-both [] ys o = refl
-put-both (x ∷ xs) ys o = put-both xs ys (put x o)
 
 pub letters-none : (s : List ℕ) (o : Output) → length s ≡ 0 → putAll (lettersPieces s) o ≡ put (45 ∷ []) o
 unfolding putAll lettersPieces
@@ -117,7 +113,7 @@ module _ (r : Reply) (ls : Lists) where
   pub answer-more : (s : List ℕ) (k : ℕ) (o : Output) → k < length s
       → putAll (answerPieces r ls (drop (k + 1) s)) (putAll (fieldPieces r ls (getD s k 0)) o) ≡ putAll (answerPieces r ls (drop k s)) o
   unfolding answerPieces
-  answer-more s k o h = rw add-one (sym (rw (drop-cons s k 0 h) (put-both (fieldPieces r ls (getD s k 0)) (answerPieces r ls (drop (suc k) s)) o)))
+  answer-more s k o h = rw add-one (sym (rw (drop-cons s k 0 h) (put-all-append (fieldPieces r ls (getD s k 0)) (answerPieces r ls (drop (suc k) s)) o)))
 
   pub answer-past : (s : List ℕ) (k : ℕ) (o : Output) → length s ≤ k → putAll (answerPieces r ls (drop k s)) o ≡ o
   unfolding putAll answerPieces

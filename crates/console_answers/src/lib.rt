@@ -2,13 +2,13 @@
 // list, 4 for the output list of bytes as numbers and 5 for it as letters, 6 to 8 for a long list, A to Z for a number and + for the signed
 // number (specs/Answers.antt). Of an output list the first entries are printed, as many as the reply says.
 use console_replies::Reply;
-use text_lists::put_byte_list;
-use text_lists::put_long_list;
 use text_printing::put_byte;
 use text_printing::put_list;
 use text_printing::put_number;
 use text_printing::put_signed;
 use text_printing::put_text;
+use text_printing_widths::put_byte_list;
+use text_printing_widths::put_long_list;
 ghost use mathlib.Core.Path.{_≡_};
 ghost use mathlib.Core.List.{_∷_, []};
 ghost use Prim.Native.Nat.{_≤_, _<_};

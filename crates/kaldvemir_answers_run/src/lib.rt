@@ -1,9 +1,9 @@
 // The answers of a run's operations. An accepted call's run is put in the place of the lent one; of the lent numbers only the size is kept.
 use kaldvemir_layout::long;
 use kaldvemir_layout_run::put_back;
-use run_blocks_answers::Listing;
 use run_answers::Run;
 use run_answers::Stepping;
+use run_blocks_answers::Listing;
 ghost use mathlib.Core.Path.{_≡_};
 ghost use lib.ListN.{length};
 ghost use Rattle.run_blocks_answers.specs.Answers.{list-number, list-rows};

@@ -7,11 +7,11 @@ ghost use Rattle.text_printing_pieces.specs.Pieces.{output, putAll};
 ghost use Rattle.text_printing_lists.specs.Lists.{entryPieces, listPieces};
 
 // An entry of a list after the first.
-fn put_entry(out: &mut [u8], place: usize, x: u16) -> usize
+pub fn put_entry(out: &mut [u8], place: usize, x: u64) -> usize
     ensures { λ r. ⌜ output (now (out .exit)) r ≡ putAll (entryPieces (x ∷ [])) (output (now (out .entry)) place) ⌝ }
 {
     let next = put_byte(out, place, b',');
-    put_number(out, next, x as u64)
+    put_number(out, next, x)
 }
 
 pub fn put_list(out: &mut [u8], place: usize, list: &[u16]) -> usize
@@ -23,7 +23,7 @@ pub fn put_list(out: &mut [u8], place: usize, list: &[u16]) -> usize
     let mut next = put_number(out, place, list[0] as u64);
     let mut i: usize = 1;
     while i < list.len() {
-        next = put_entry(out, next, list[i]);
+        next = put_entry(out, next, list[i] as u64);
         i += 1;
     }
     next

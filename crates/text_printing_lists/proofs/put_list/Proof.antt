@@ -43,6 +43,9 @@ mul-put-entry c = search needs
 shared-slice-read-put-entry : tie.Need-shared-slice-read-put-entry Inv-loop μ-loop
 shared-slice-read-put-entry c = search needs
 
+cast-put-entry : tie.Need-cast-put-entry Inv-loop μ-loop
+cast-put-entry c = omega (arith, c .shared-slice-known3 .given (c .before .before .before .loop .i))
+
 put-entry-requires : tie.Need-put-entry-requires Inv-loop μ-loop
 put-entry-requires c κs = search needs
 
@@ -76,6 +79,7 @@ put-list-spec =
     loop-holds
     mul-put-entry
     shared-slice-read-put-entry
+    cast-put-entry
     put-entry-requires
     add-i
     loop-less
