@@ -1,4 +1,5 @@
--- Words as ASCII bytes, in their event letters (document 01, "Labelling and words" and "Small sizes, by hand").
+-- Words as ASCII bytes, in their event letters (document 01, "Labelling and words" and "Small sizes, by hand"). The letters of events are
+-- passed on from `words_letters`, numbers in decimal from `words_decimals`.
 --
 --   letters w                 U or T, then for each item W, F, B or J with d in decimal; a first item above 1 has no letter
 --   startsWithRoot w          w has no item, or a first item that is 0 or 1
@@ -16,23 +17,14 @@ use Rattle.words.specs.declared.Lettered.{Lettered}
 use Rattle.words.specs.declared.Lettered.the-variants.{Length, Refused}
 pub use Rattle.words_decimals.specs.Decimals.{BytesWritten, BytesPut}
 unfoldable pub use Rattle.words_decimals.specs.Decimals.{digits, decimal}
+pub use Rattle.words_letters.specs.EventLetters.{event-letters}
+unfoldable pub use Rattle.words_letters.specs.EventLetters.{events-letters}
 
 -- U, T
 abbrev pub first-letter : ℕ → List ℕ
 first-letter zero = 85 ∷ []
 first-letter (suc zero) = 84 ∷ []
 first-letter (suc (suc x)) = []
-
--- W, F, B, Jd
-abbrev pub event-letters : ℕ → List ℕ
-event-letters zero = 87 ∷ []
-event-letters (suc zero) = 70 ∷ []
-event-letters (suc (suc zero)) = 66 ∷ []
-event-letters (suc (suc (suc d))) = 74 ∷ decimal d
-
-unfoldable pub events-letters : List ℕ → List ℕ
-events-letters [] = []
-events-letters (x ∷ w) = event-letters x ++ events-letters w
 
 unfoldable pub letters : List ℕ → List ℕ
 letters [] = []

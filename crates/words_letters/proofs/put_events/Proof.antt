@@ -4,9 +4,9 @@ use Prim.Native.Nat.{_-_}
 use native.Mathlib.Omega.{arith}
 use lib.ListN.{length}
 use borrow.Author.Needs.{needs}
-use Rattle.words.proofs.Lettering.{Rest, rest-more, rest-end, length-from}
-use Rattle.words.proofs.put_events.Statement.{statement}
-use Rattle.words.proofs.put_events.Tie as tie
+use Rattle.words_letters.proofs.Lettering.{Rest, rest-more, rest-end, length-from}
+use Rattle.words_letters.proofs.put_events.Statement.{statement}
+use Rattle.words_letters.proofs.put_events.Tie as tie
 
 abbrev Inv-loop : tie.InvT-loop
 Inv-loop out₀ place items next₀ i₀ out next i = Rest out₀ place items out next i

@@ -6,10 +6,10 @@ use native.Mathlib.Omega.{arith}
 use lib.ListN.{length, drop}
 use borrow.Author.Needs.{needs}
 use Rattle.lists.proofs.Tests.{le-true, le-false}
-use Rattle.words.specs.Letters.{events-letters}
-use Rattle.words.proofs.Lettering.{length-from, events-past}
-use Rattle.words.proofs.events_fit.Statement.{statement}
-use Rattle.words.proofs.events_fit.Tie as tie
+use Rattle.words_letters.specs.EventLetters.{events-letters}
+use Rattle.words_letters.proofs.Lettering.{length-from, events-past}
+use Rattle.words_letters.proofs.events_fit.Statement.{statement}
+use Rattle.words_letters.proofs.events_fit.Tie as tie
 
 abbrev Inv-loop : tie.InvT-loop
 Inv-loop items room left₀ i₀ left i = (left ≤ room) × (length (events-letters items) + left ≡ room + length (events-letters (drop i items)))

@@ -2,8 +2,8 @@
 use mathlib.Core.Path.{_≡_}
 use native.Mathlib.Omega.{arith}
 use borrow.Author.Needs.{needs}
-use Rattle.words.proofs.event_letter.Statement.{statement}
-use Rattle.words.proofs.event_letter.Tie as tie
+use Rattle.words_letters.proofs.event_letter.Statement.{statement}
+use Rattle.words_letters.proofs.event_letter.Tie as tie
 
 returns : tie.Need-returns
 returns c = search needs

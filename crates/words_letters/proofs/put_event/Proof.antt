@@ -4,9 +4,9 @@ use native.Mathlib.Omega.{arith}
 use lib.ListN.{length, length-set}
 use borrow.Author.Needs.{needs}
 use Rattle.words_decimals.proofs.Writing.{wrote-byte}
-use Rattle.words.proofs.Lettering.{event-one, event-jump, wrote-jump}
-use Rattle.words.proofs.put_event.Statement.{statement}
-use Rattle.words.proofs.put_event.Tie as tie
+use Rattle.words_letters.proofs.Lettering.{event-one, event-jump, wrote-jump}
+use Rattle.words_letters.proofs.put_event.Statement.{statement}
+use Rattle.words_letters.proofs.put_event.Tie as tie
 
 event-letter-requires : tie.Need-event-letter-requires
 event-letter-requires c κs = search needs

@@ -4,9 +4,9 @@ use Prim.Native.Nat.{_-_}
 use native.Mathlib.Omega.{arith}
 use borrow.Author.Needs.{needs}
 use Rattle.words_decimals.proofs.Decimal.{decimal-length}
-use Rattle.words.proofs.Lettering.{event-one, event-jump}
-use Rattle.words.proofs.event_length.Statement.{statement}
-use Rattle.words.proofs.event_length.Tie as tie
+use Rattle.words_letters.proofs.Lettering.{event-one, event-jump}
+use Rattle.words_letters.proofs.event_length.Statement.{statement}
+use Rattle.words_letters.proofs.event_length.Tie as tie
 
 returns : tie.Need-returns
 returns c = sym (event-one _ (c .if1 .taken))
