@@ -1,7 +1,6 @@
 -- What each operation of the share book answers and the book that it leaves, as functions of the book and the arguments (document 01,
 -- "Share book"). A refused call leaves the book as it was.
 --
---   unless t k rest                 the number k where the test t fails, otherwise rest; 01's conditions in 01's order are a chain of these
 --   open-number ..                  the number of the first condition that applies to an open, 0 where none does; so for claim, take, commit
 --                                   and release
 --   open-answer ..                  the answer of an open: accepted with its values, or refused with that number; so for the others and the
@@ -44,13 +43,7 @@ use Rattle.book.specs.declared.types.Reporting.{Reporting}
 use Rattle.book.specs.declared.types.Reporting.the-variants as reporting
 use Rattle.book.specs.Shares.{first, next, finished, committed, complete, holder, lapsed}
 use Rattle.book.specs.Valid.{both, either, among, valid}
-
--- refusal k unless the test holds; the tests are made in the order in which they stand
-abbrev pub unless : Bool → ℕ → ℕ → ℕ
-unless t k rest = cond t rest k
-
-abbrev pub not : Bool → Bool
-not b = cond b false true
+pub use Rattle.book_connectives.specs.Connectives.{unless, not}
 
 -- ---- open, a new lease table: 31, 51
 

@@ -15,19 +15,9 @@ use Prim.Native.Nat.{ℕ, zero, suc, _+_, _-_, _^_}
 use lib.Dec.{eqb, leb, ltb}
 use Rattle.lists.specs.Lists.{at}
 use Rattle.lists.specs.Ranges.{every}
+pub use Rattle.book_connectives.specs.Connectives.{both, either, among}
 use Rattle.book.specs.declared.types.Book.{Book}
 use Rattle.book.specs.Shares.{first, last, next, ticket, expiry, finished}
-
--- both tests hold; one or the other does
-abbrev pub both : Bool → Bool → Bool
-both a b = cond a b false
-
-abbrev pub either : Bool → Bool → Bool
-either a b = cond a true b
-
--- x is one of 1..n
-abbrev pub among : ℕ → ℕ → Bool
-among n x = both (leb 1 x) (leb x n)
 
 -- the size is 1..50, the number of shares 1..32
 unfoldable pub in-range : Book → Bool

@@ -1,12 +1,12 @@
 // What a claim is refused for.
 use book::Heads;
+use book_connectives::among;
+use book_connectives::both;
+use book_connectives::not;
+use book_connectives::unless;
 use book_heads::tick_in;
 use book_shares::entry;
 use book_shares::past;
-use book_shares::tests::among;
-use book_shares::tests::both;
-use book_shares::tests::not;
-use book_shares::tests::unless;
 use book_validity::valid;
 ghost use mathlib.Core.Path.{_≡_};
 ghost use mathlib.Core.Bool.{true};

@@ -1,10 +1,10 @@
 // Whether the entries of one share, or of an unused place, are those of a valid book. The functions are lent the book's lists, as slices,
 // so that they may lie anywhere.
+use book_connectives::both;
 use book_entries_conditions::expiry_in;
 use book_entries_conditions::place_valid;
 use book_entries_conditions::ticket_once;
 use book_entries_conditions::unused;
-use book_shares::tests::both;
 ghost use mathlib.Core.Path.{_≡_};
 ghost use Prim.Native.Nat.{ℕ, suc, _+_, _<_, _^_};
 ghost use Rattle.book.specs.Shares.{last};

@@ -10,7 +10,7 @@ use Prim.Native.Nat.{ℕ, suc, _+_}
 use lib.Dec.{eqb, leb, ltb}
 use Rattle.lists.specs.Lists.{at}
 use Rattle.lists.specs.Ranges.{every}
-use Rattle.book.specs.Valid.{both, either}
+use Rattle.book_connectives.specs.Connectives.{both, either}
 
 unfoldable pub placed : ℕ → ℕ → ℕ → ℕ → Bool
 placed before last p t = both (both (leb (suc before) p) (leb p (suc last))) (cond (ltb last p) (eqb t 0) true)

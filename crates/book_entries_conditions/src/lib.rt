@@ -1,13 +1,13 @@
 // The conditions of a valid book on a share's entries: its next position, its ticket and its expiry; and that an entry is unused.
-use book_shares::tests::both;
-use book_shares::tests::either;
-use book_shares::tests::implies;
-use book_shares::tests::not;
+use book_connectives::both;
+use book_connectives::either;
+use book_connectives::implies;
+use book_connectives::not;
 ghost use mathlib.Core.Path.{_≡_};
 ghost use Prim.Native.Nat.{_<_, _^_};
 ghost use lib.Dec.{eqb};
 ghost use lib.ListN.{length};
-ghost use Rattle.book.specs.Valid.{both};
+ghost use Rattle.book_connectives.specs.Connectives.{both};
 ghost use Rattle.book_entries_conditions.specs.Conditions.{placed, once-before, timely};
 
 // Of a share that holds the positions after `before` up to `end`: its next position p is one of them or just past them, and past them

@@ -1,7 +1,7 @@
 // Tests of a book's numbers apart from its lists: whether they are those of a valid book, and whether a tick may come next.
 use book::Heads;
-use book_shares::tests::among;
-use book_shares::tests::both;
+use book_connectives::among;
+use book_connectives::both;
 use diagrams::Diagram;
 ghost use mathlib.Core.Path.{_≡_};
 ghost use Prim.Native.Nat.{_^_};

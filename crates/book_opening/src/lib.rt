@@ -2,9 +2,9 @@
 use book::Book;
 use book::OpenDone;
 use book::Opening;
+use book_connectives::among;
 use book_shares::count_of;
 use book_shares::last_of;
-use book_shares::tests::among;
 use diagrams::Diagram;
 ghost use mathlib.Core.Path.{_≡_};
 ghost use mathlib.Core.Bool.{cond};

@@ -1,6 +1,4 @@
 // The shares of a book: the positions that one holds, and its entry in the book's lists.
-pub mod tests;
-
 ghost use mathlib.Core.Path.{_≡_};
 ghost use Prim.Native.Nat.{ℕ, _+_, _*_, _<_, _≤_, _^_};
 ghost use lib.Dec.{ltb};

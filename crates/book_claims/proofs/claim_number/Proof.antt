@@ -10,7 +10,7 @@ use Rattle.book_claims.proofs.claim_number.Lts as lts
 use Rattle.book_claims.proofs.place_number.Reads as place-number-reads
 use Rattle.book_heads.proofs.tick_in.Reads as tick-in-reads
 use Rattle.book_validity.proofs.valid.Reads as valid-reads
-use Rattle.book_shares.proofs.tests.unless.Reads as unless-reads
+use Rattle.book_connectives.proofs.unless.Reads as unless-reads
 
 valid-requires : tie.Need-valid-requires
 valid-requires c κs = search needs

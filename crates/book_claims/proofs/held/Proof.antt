@@ -4,8 +4,8 @@ use Rattle.book_claims.proofs.held.Statement.{statement}
 use Rattle.book_claims.proofs.held.Tie as tie
 use Rattle.book_claims.proofs.held.Reads as reads
 use Rattle.book_claims.proofs.held.Lts as lts
-use Rattle.book_shares.proofs.tests.both.Reads as both-reads
-use Rattle.book_shares.proofs.tests.not.Reads as not-reads
+use Rattle.book_connectives.proofs.both.Reads as both-reads
+use Rattle.book_connectives.proofs.not.Reads as not-reads
 
 not-requires : tie.Need-not-requires
 not-requires c κs = search needs

@@ -8,8 +8,8 @@ use Rattle.book_claims.proofs.place_number.Tie as tie
 use Rattle.book_claims.proofs.place_number.Reads as reads
 use Rattle.book_claims.proofs.place_number.Lts as lts
 use Rattle.book_claims.proofs.share_number.Reads as share-number-reads
-use Rattle.book_shares.proofs.tests.among.Reads as among-reads
-use Rattle.book_shares.proofs.tests.unless.Reads as unless-reads
+use Rattle.book_connectives.proofs.among.Reads as among-reads
+use Rattle.book_connectives.proofs.unless.Reads as unless-reads
 
 among-requires : tie.Need-among-requires
 among-requires c κs = search needs

@@ -16,8 +16,8 @@ use Rattle.book_claims.proofs.share_number.Lts as lts
 use Rattle.book_claims.proofs.held.Reads as held-reads
 use Rattle.book_shares.proofs.entry.Reads as entry-reads
 use Rattle.book_shares.proofs.past.Reads as past-reads
-use Rattle.book_shares.proofs.tests.not.Reads as not-reads
-use Rattle.book_shares.proofs.tests.unless.Reads as unless-reads
+use Rattle.book_connectives.proofs.not.Reads as not-reads
+use Rattle.book_connectives.proofs.unless.Reads as unless-reads
 
 -- the book that is looked at
 abbrev lent : tie.Start → Book

@@ -20,7 +20,7 @@ use Rattle.book_entries.proofs.share_valid.Lts as lts
 use Rattle.book_entries_conditions.proofs.expiry_in.Reads as expiry-in-reads
 use Rattle.book_entries_conditions.proofs.place_valid.Reads as place-valid-reads
 use Rattle.book_entries_conditions.proofs.ticket_once.Reads as ticket-once-reads
-use Rattle.book_shares.proofs.tests.both.Reads as both-reads
+use Rattle.book_connectives.proofs.both.Reads as both-reads
 
 -- the tests of `share-valid`, the first two as one
 share-tests : (n k latest issued : ℕ) (next ticket expiry : List ℕ) (i x y : ℕ) → x ≡ last n k i → y ≡ last n k (i + 1)

@@ -5,9 +5,9 @@ use Rattle.book_entries_conditions.proofs.expiry_in.Statement.{statemen
 use Rattle.book_entries_conditions.proofs.expiry_in.Tie as tie
 use Rattle.book_entries_conditions.proofs.expiry_in.Reads as reads
 use Rattle.book_entries_conditions.proofs.expiry_in.Lts as lts
-use Rattle.book_shares.proofs.tests.both.Reads as both-reads
-use Rattle.book_shares.proofs.tests.either.Reads as either-reads
-use Rattle.book_shares.proofs.tests.not.Reads as not-reads
+use Rattle.book_connectives.proofs.both.Reads as both-reads
+use Rattle.book_connectives.proofs.either.Reads as either-reads
+use Rattle.book_connectives.proofs.not.Reads as not-reads
 
 not-requires : tie.Need-not-requires
 not-requires c κs = search needs

@@ -6,8 +6,8 @@ use Rattle.book_entries_conditions.proofs.place_valid.Statement.{statem
 use Rattle.book_entries_conditions.proofs.place_valid.Tie as tie
 use Rattle.book_entries_conditions.proofs.place_valid.Reads as reads
 use Rattle.book_entries_conditions.proofs.place_valid.Lts as lts
-use Rattle.book_shares.proofs.tests.both.Reads as both-reads
-use Rattle.book_shares.proofs.tests.implies.Reads as implies-reads
+use Rattle.book_connectives.proofs.both.Reads as both-reads
+use Rattle.book_connectives.proofs.implies.Reads as implies-reads
 
 add-both : tie.Need-add-both
 add-both c = search needs

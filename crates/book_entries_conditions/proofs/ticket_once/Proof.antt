@@ -10,7 +10,7 @@ use lib.Dec.{eqb}
 use denote.Ref.{now}
 use Rattle.lists.specs.Lists.{at}
 use Rattle.lists.specs.Ranges.{every}
-use Rattle.book.specs.Valid.{either}
+use Rattle.book_connectives.specs.Connectives.{either}
 use Rattle.book_entries_conditions.specs.Conditions.{once-before}
 use Rattle.book_entries_conditions.proofs.ticket_once.Statement.{statement}
 use Rattle.book_entries_conditions.proofs.ticket_once.Tie as tie

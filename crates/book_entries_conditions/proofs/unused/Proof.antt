@@ -4,7 +4,7 @@ use Rattle.book_entries_conditions.proofs.unused.Statement.{statement}
 use Rattle.book_entries_conditions.proofs.unused.Tie as tie
 use Rattle.book_entries_conditions.proofs.unused.Reads as reads
 use Rattle.book_entries_conditions.proofs.unused.Lts as lts
-use Rattle.book_shares.proofs.tests.both.Reads as both-reads
+use Rattle.book_connectives.proofs.both.Reads as both-reads
 
 both-requires : tie.Need-both-requires
 both-requires c κs = search needs

@@ -5,8 +5,8 @@ use Rattle.book_heads.proofs.heads_valid.Tie as tie
 use Rattle.book_heads.proofs.heads_valid.Reads as reads
 use Rattle.book_heads.proofs.heads_valid.Lts as lts
 use Rattle.book_heads.proofs.counters_in.Reads as counters-in-reads
-use Rattle.book_shares.proofs.tests.among.Reads as among-reads
-use Rattle.book_shares.proofs.tests.both.Reads as both-reads
+use Rattle.book_connectives.proofs.among.Reads as among-reads
+use Rattle.book_connectives.proofs.both.Reads as both-reads
 
 among-requires : tie.Need-among-requires
 among-requires c κs = search needs

@@ -4,7 +4,7 @@ use Rattle.book_heads.proofs.tick_in.Statement.{statement}
 use Rattle.book_heads.proofs.tick_in.Tie as tie
 use Rattle.book_heads.proofs.tick_in.Reads as reads
 use Rattle.book_heads.proofs.tick_in.Lts as lts
-use Rattle.book_shares.proofs.tests.both.Reads as both-reads
+use Rattle.book_connectives.proofs.both.Reads as both-reads
 
 both-requires : tie.Need-both-requires
 both-requires c κs = search needs

@@ -11,7 +11,7 @@ use Rattle.book_opening.proofs.open_core.Tie as tie
 use Rattle.book_opening.proofs.open_core.Reads as reads
 use Rattle.book_opening.proofs.open_core.Lts as lts
 use Rattle.book_opening.proofs.opened.Reads as opened-reads
-use Rattle.book_shares.proofs.tests.among.Reads as among-reads
+use Rattle.book_connectives.proofs.among.Reads as among-reads
 
 listed-size : (c : tie.Else1) → among 50 (c .before .before .args .size) ≡ true
 listed-size c = sym (c .before .among .ensures) ∙ not-false _ (c .if1 .left)

@@ -1,8 +1,7 @@
 // The connectives of the definitions' tests, each a function, so that a test in the code is the definition's own.
 ghost use mathlib.Core.Path.{_≡_};
 ghost use mathlib.Core.Bool.{true, false, cond};
-ghost use Rattle.book.specs.Valid.{both, either, among};
-ghost use Rattle.book.specs.Calls.{unless, not};
+ghost use Rattle.book_connectives.specs.Connectives.{both, either, not, among, unless};
 
 pub fn both(a: bool, b: bool) -> bool
     ensures { λ r. ⌜ r ≡ both a b ⌝ }
