@@ -4,9 +4,9 @@
 use run_answers::Run;
 use run_blocks_answers::Listed;
 use run_blocks_answers::Listing;
-use run_blocks_answers::short_rows;
+use run_blocks_answers::Readiness;
+use run_blocks_answers::tested;
 use run_rows::rows_of;
-use run_validity::valid;
 ghost use Rattle.run_blocks_answers.specs.Promises.{ListPromise};
 
 // The next diagrams of a run, at most as many as the rows asked for: black lists, white lists, words and lengths of words, one after another.
@@ -21,35 +21,30 @@ pub fn list(
     ensures { λ r. ⌜ ListPromise run rows (now (s0 .entry)) (now (s1 .entry)) (now (words .entry)) (now (lengths .entry))
         (r .run) (now (s0 .exit)) (now (s1 .exit)) (now (words .exit)) (now (lengths .exit)) (r .answer) ⌝ }
 {
-    if !valid(run) {
-        return Listed {
-            answer: Listing::Refused(34),
-            run,
-        };
-    }
-    if run.stage == 2 {
-        return Listed {
-            answer: Listing::Rows(0),
-            run,
-        };
-    }
-    if short_rows(
-        run.size as usize,
+    let readiness = tested(
+        run,
         rows as usize,
         s0.len(),
         s1.len(),
         words.len(),
         lengths.len(),
-    ) {
-        return Listed {
-            answer: Listing::Refused(9),
+    );
+    match readiness {
+        Readiness::Refused(number) => Listed {
+            answer: Listing::Refused(number),
             run,
-        };
-    }
-    let reached = rows_of(run, rows as usize, s0, s1, words, lengths);
-    let next = reached.run;
-    Listed {
-        answer: Listing::Rows(reached.rows as u64),
-        run: next,
+        },
+        Readiness::Finished => Listed {
+            answer: Listing::Rows(0),
+            run,
+        },
+        Readiness::Ready => {
+            let reached = rows_of(run, rows as usize, s0, s1, words, lengths);
+            let next = reached.run;
+            Listed {
+                answer: Listing::Rows(reached.rows as u64),
+                run: next,
+            }
+        }
     }
 }

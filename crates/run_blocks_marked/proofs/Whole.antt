@@ -1,5 +1,5 @@
 -- A block that was written is one whose rows can be marked, and marked it is what `list_marked` promises.
-use mathlib.Core.Logic.{inl, inr}
+use mathlib.Core.Logic.{_⊎_, inl, inr}
 use mathlib.Core.List.{List}
 use Prim.Native.Nat.{ℕ, _+_, _≤_}
 use native.Mathlib.Omega.{arith}
@@ -9,7 +9,7 @@ use Rattle.run_answers.specs.declared.Run.{Run}
 use Rattle.run_validity.proofs.Standing.{stands-size}
 use Rattle.run_row.specs.Rows.{blacks, whites, flatWords, lengths}
 use Rattle.run_marks.specs.Marks.{BlockHeld, MarksWritten}
-use Rattle.run_blocks_answers.specs.Promises.{RunAfterRows, RowsGiven, MarkedRowsGiven, ListPromise, ListMarkedPromise}
+use Rattle.run_blocks_answers.specs.Promises.{RunAfterRows, RowsGiven, RefusedList, MarkedRowsGiven, ListPromise, ListMarkedPromise}
 use Rattle.run_blocks_answers.specs.declared.Listing.the-variants.{Rows}
 
 leaves-within : (n p rows k : ℕ) (next : Run) → RunAfterRows n p rows k next → (p + k ≤ count n) × (k ≤ rows)
@@ -42,3 +42,8 @@ pub marked-lists : (run : Run) (rows k : ℕ) (next : Run) (a0 a1 aw al am b0 b1
     → ListMarkedPromise run rows a0 a1 aw al am next b0 b1 bw bl bm (Rows k) → ListPromise run rows a0 a1 aw al next b0 b1 bw bl (Rows k)
 marked-lists run rows k next a0 a1 aw al am b0 b1 bw bl bm (inl x) = inl (x .0)
 marked-lists run rows k next a0 a1 aw al am b0 b1 bw bl bm (inr x) = inr (x .gave)
+
+-- what is refused of the lists is refused of the lists and the marks
+pub refused-marked : {run : Run} {Short Marks : ℕ → Type 0} {k : ℕ} → RefusedList run Short k → RefusedList run (λ n. Short n ⊎ Marks n) k
+refused-marked (inl r) = inl r
+refused-marked (inr (e, s)) = inr (e, (s .0, s .1, s .2, inl (s .3)))

@@ -4,10 +4,10 @@
 use run_answers::Run;
 use run_blocks_answers::Listed;
 use run_blocks_answers::Listing;
-use run_blocks_answers::short_rows;
+use run_blocks_answers::Readiness;
+use run_blocks_answers::tested;
 use run_marks::mark_rows;
 use run_rows::rows_of;
-use run_validity::valid;
 ghost use Rattle.run_blocks_answers.specs.Promises.{ListMarkedPromise};
 
 // The next diagrams of a run, at most as many as the rows asked for, and the keep mark of each, 1 or 0.
@@ -23,37 +23,32 @@ pub fn list_marked(
     ensures { λ r. ⌜ ListMarkedPromise run rows (now (s0 .entry)) (now (s1 .entry)) (now (words .entry)) (now (lengths .entry)) (now (marks .entry))
         (r .run) (now (s0 .exit)) (now (s1 .exit)) (now (words .exit)) (now (lengths .exit)) (now (marks .exit)) (r .answer) ⌝ }
 {
-    if !valid(run) {
-        return Listed {
-            answer: Listing::Refused(34),
-            run,
-        };
-    }
-    if run.stage == 2 {
-        return Listed {
-            answer: Listing::Rows(0),
-            run,
-        };
-    }
     let count = rows as usize;
     let n = run.size as usize;
-    if short_rows(n, count, s0.len(), s1.len(), words.len(), lengths.len()) {
-        return Listed {
-            answer: Listing::Refused(9),
+    let readiness = tested(run, count, s0.len(), s1.len(), words.len(), lengths.len());
+    match readiness {
+        Readiness::Refused(number) => Listed {
+            answer: Listing::Refused(number),
             run,
-        };
-    }
-    if marks.len() < count {
-        return Listed {
-            answer: Listing::Refused(9),
+        },
+        Readiness::Finished => Listed {
+            answer: Listing::Rows(0),
             run,
-        };
-    }
-    let reached = rows_of(run, count, s0, s1, words, lengths);
-    mark_rows(n, reached.rows, s0, s1, words, lengths, marks);
-    let next = reached.run;
-    Listed {
-        answer: Listing::Rows(reached.rows as u64),
-        run: next,
+        },
+        Readiness::Ready => {
+            if marks.len() < count {
+                return Listed {
+                    answer: Listing::Refused(9),
+                    run,
+                };
+            }
+            let reached = rows_of(run, count, s0, s1, words, lengths);
+            mark_rows(n, reached.rows, s0, s1, words, lengths, marks);
+            let next = reached.run;
+            Listed {
+                answer: Listing::Rows(reached.rows as u64),
+                run: next,
+            }
+        }
     }
 }

@@ -1,58 +1,43 @@
--- `list_marked` meets its promise: the refusals one after another, then the rows, then their marks.
+-- `list_marked` meets its promise: what the tests refuse is refused, a finished run answers no rows, and the rest is written and marked.
 use borrow.Author.Needs.{needs}
 use mathlib.Core.Path.{refl}
 use mathlib.Core.Logic.{inl, inr}
 use native.Mathlib.Omega.{arith}
-use borrow.Author.Tests.{not-true, not-false}
-use Rattle.run_validity.specs.Valid.{ValidRun}
-use Rattle.run_blocks_answers.proofs.Refusals.{same-lists, stands-nowhere, is-over, stands-at}
-use Rattle.run_blocks_marked.proofs.Whole.{gave-holds, gave-few, gave-marked}
+use Rattle.run_blocks_answers.proofs.Refusals.{same-lists}
+use Rattle.run_blocks_marked.proofs.Whole.{gave-holds, gave-few, gave-marked, refused-marked}
 use Rattle.run_blocks_marked.proofs.list_marked.Statement.{statement}
 use Rattle.run_blocks_marked.proofs.list_marked.Tie as tie
 
--- past the first test the run is valid
-is-valid : (c : tie.Else1) → ValidRun (c .before .before .before .before .before .before .before .args .run)
-is-valid c = c .before .valid .ensures .0 (not-false _ (c .if1 .left))
+tested-requires : tie.Need-tested-requires
+tested-requires c κs = search needs
 
-valid-requires : tie.Need-valid-requires
-valid-requires c κs = search needs
+enum-known-readiness : tie.Need-enum-known-readiness
+enum-known-readiness c = search needs
+
+enum-told : tie.Need-enum-told
+enum-told c = search needs
+
+enum-told-2 : tie.Need-enum-told-2
+enum-told-2 c = search needs
 
 returns : tie.Need-returns
-returns c =
-    let a = c .before .before .before .before .before .before .before .args in
-    let k = stands-nowhere (a .run) (c .before .valid .ensures .1 (not-true _ (c .if1 .taken))) in
-    (inl (refl, k .0, k .1), refl, same-lists _ _ _ _, refl)
-
-returns-2 : tie.Need-returns-2
-returns-2 c = let a = c .before .before .before .before .before .before .before .before .before .args in inl ((is-over (a .run) (is-valid (c .before .before)) (c .if2 .taken), refl, refl, same-lists _ _ _ _), refl)
-
-short-rows-requires : tie.Need-short-rows-requires
-short-rows-requires c κs = is-valid (c .before .before) .sized
-
-returns-3 : tie.Need-returns-3
-returns-3 c =
-    let a = c .before .before .before .before .before .before .before .before .before .before .before .args in
-    let T = stands-at (a .run) (is-valid (c .before .before .before .before)) (c .before .before .if2 .left) in
-    (inr (refl, (a .run .size, T .0, T .1, inl (c .before .short-rows .ensures .0 (c .if3 .taken)))), refl, same-lists _ _ _ _, refl)
-
-returns-4 : tie.Need-returns-4
-returns-4 c =
-    let a = c .before .before .before .before .before .before .before .before .before .before .before .before .args in
-    let T = stands-at (a .run) (is-valid (c .before .before .before .before .before)) (c .before .before .before .if2 .left) in
-    (inr (refl, (a .run .size, T .0, T .1, inr (c .if4 .taken))), refl, same-lists _ _ _ _, refl)
+returns c = let T = rw (c .before .enum-told2 .given .1) at (c .before .before .before .tested .ensures) in (inr (refl, (_, T .0, T .1, inr (c .if1 .taken))), refl, same-lists _ _ _ _, refl)
 
 rows-of-requires : tie.Need-rows-of-requires
-rows-of-requires c κs =
-    let a = c .before .before .before .before .before .before .before .before .before .before .before .before .before .before .before .before .args in
-    let T = stands-at (a .run) (is-valid (c .before .before .before .before .before .before .before .before .before)) (c .before .before .before .before .before .before .before .if2 .left) in
-    (T .0, T .1, c .before .before .before .before .before .before .short-rows .ensures .1 (c .before .before .before .before .before .if3 .left))
+rows-of-requires c κs = rw (c .before .before .before .before .before .enum-told2 .given .1) at (c .before .before .before .before .before .before .before .tested .ensures)
 
 mark-rows-requires : tie.Need-mark-rows-requires
 mark-rows-requires c κs =
     let G = c .before .before .before .before .before .before .before .before .before .before .before .before .before .rows-of .ensures in
     let f = gave-few G in
-    let l = c .before .before .before .before .before .before .before .before .before .before .before .before .before .before .before .before .before .before .if4 .left in
+    let l = c .before .before .before .before .before .before .before .before .before .before .before .before .before .before .before .before .before .before .if1 .left in
     ((G .place, gave-holds G), omega arith)
+
+returns-2 : tie.Need-returns-2
+returns-2 c = (refused-marked (rw (c .before .readiness .given .1) at (c .before .before .before .tested .ensures)), refl, same-lists _ _ _ _, refl)
+
+returns-3 : tie.Need-returns-3
+returns-3 c = inl ((rw (c .enum-told .given .1) at (c .before .before .tested .ensures), refl, refl, same-lists _ _ _ _), refl)
 
 same-length : tie.Need-same-length
 same-length c = search needs
@@ -69,26 +54,27 @@ same-length-4 c = search needs
 same-length-5 : tie.Need-same-length-5
 same-length-5 c = search needs
 
-returns-5 : tie.Need-returns-5
-returns-5 c =
+returns-4 : tie.Need-returns-4
+returns-4 c =
     let G = c .before .before .before .before .before .before .before .before .before .before .before .before .before .before .before .before .before .rows-of .ensures in
-    inr (gave-marked G _ _ (c .before .before .before .before .before .before .before .before .before .before .before .before .before .before .before .before .before .before .before .before .before .before .if4 .left) (c .before .before .before .mark-rows .ensures (G .place) (gave-holds G)))
+    inr (gave-marked G _ _ (c .before .before .before .before .before .before .before .before .before .before .before .before .before .before .before .before .before .before .before .before .before .before .if1 .left) (c .before .before .before .mark-rows .ensures (G .place) (gave-holds G)))
 
 pub list-marked-spec : {M : Type 1} → statement M
 list-marked-spec =
     tie.close
     (tie.spec
-    valid-requires
+    tested-requires
+    enum-known-readiness
+    enum-told
+    enum-told-2
     returns
-    returns-2
-    short-rows-requires
-    returns-3
-    returns-4
     rows-of-requires
     mark-rows-requires
+    returns-2
+    returns-3
     same-length
     same-length-2
     same-length-3
     same-length-4
     same-length-5
-    returns-5)
+    returns-4)
