@@ -36,6 +36,11 @@ fn write_call(name: &[u8], a: u64, b: u64) {
     write_number(b);
 }
 
+// A 16-bit number as a 64-bit one.
+fn long(x: u16) -> u64 {
+    x as u64
+}
+
 // A book of zeros, which open replaces.
 fn blank() -> Book {
     let none = [0u64; 32];
@@ -91,7 +96,7 @@ fn take(b: Book, tick: u64, ticket: u64) -> Book {
             length,
         } => {
             write_call(b": share and position", share, position);
-            write_call(b", items and the third", length, word[2] as u64);
+            write_call(b", items and the third", length, long(word[2]));
             write(b"\n");
         }
         Taking::Refused(k) => write_done(k),
