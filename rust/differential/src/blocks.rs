@@ -80,7 +80,7 @@ fn block(run: &mut Run, rows: u64, before: &Lists, marked: bool, tally: &mut Tal
     Ok(reference.ok())
 }
 
-/// How many diagrams a sound run still has before it.
+/// How many diagrams a valid run still has before it.
 fn left(run: &Run) -> u64 {
     let count = reference::count(run.size.into()).expect("a size in range");
     match run.stage {
@@ -108,7 +108,7 @@ fn rows(random: &mut Random, n: u64, left: u64) -> u64 {
     }
 }
 
-/// A few blocks from anywhere, up to the first that is refused, with damage now and then; a damaged run that is still sound goes on.
+/// A few blocks from anywhere, up to the first that is refused, with damage now and then; a damaged run that is still valid goes on.
 fn blocks(random: &mut Random, marked: bool, tally: &mut Tally) -> Compared {
     let mut run = anywhere(random, 75);
     for _ in 0..1 + random.below(4) {

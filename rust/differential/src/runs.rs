@@ -34,7 +34,7 @@ fn step(run: &mut Run, before: &Lists, tally: &mut Tally) -> Result<Option<Optio
     Ok(reference.ok())
 }
 
-/// A few steps from anywhere, with damage now and then; a damaged run that is still sound goes on.
+/// A few steps from anywhere, with damage now and then; a damaged run that is still valid goes on.
 pub fn steps(random: &mut Random, tally: &mut Tally) -> Compared {
     let mut run = anywhere(random, 40);
     for _ in 0..1 + random.below(6) {
@@ -47,7 +47,7 @@ pub fn steps(random: &mut Random, tally: &mut Tally) -> Compared {
     Ok(())
 }
 
-/// A sound run: fresh, finished, or at a diagram; often near the ends of the listing, and of a size up to 9 in so many of a hundred cases.
+/// A valid run: fresh, finished, or at a diagram; often near the ends of the listing, and of a size up to 9 in so many of a hundred cases.
 pub fn anywhere(random: &mut Random, small: usize) -> Run {
     let size = if random.percent(small) { random.between(1, 9) } else { random.between(1, 50) } as u16;
     let count = reference::count(size.into()).expect("a size in range");

@@ -41,7 +41,7 @@ pub enum Refusal {
     /// 32: the position is 0 or above the count.
     PositionOutside = 32,
     /// 34: the run is neither fresh, nor at a diagram of its size, nor finished.
-    RunUnsound = 34,
+    RunInvalid = 34,
     /// 35: the size is outside 1..9.
     WalkSizeOutside = 35,
     /// 50: the book is not valid.
@@ -89,7 +89,7 @@ const REFUSALS: [(Refusal, &str); 30] = [
     (ItemAfterEnd, "an item after the stack has emptied"),
     (ListedSizeOutside, "the size is outside 1..50"),
     (PositionOutside, "the position is 0 or above the count"),
-    (RunUnsound, "the run is neither fresh, nor at a diagram, nor finished"),
+    (RunInvalid, "the run is neither fresh, nor at a diagram, nor finished"),
     (WalkSizeOutside, "the size is outside 1..9"),
     (BookInvalid, "the book is not valid"),
     (SharesOutside, "the number of shares is outside 1..32"),

@@ -106,7 +106,7 @@ fn a_step_fills_the_first_places() {
     let mut damaged = run.clone();
     damaged.items[50] = 1;
     let before = damaged.clone();
-    assert_eq!((step(&mut damaged, [6, 6, 6]), &damaged), (untouched([6, 6, 6], Err(Refusal::RunUnsound)), &before));
+    assert_eq!((step(&mut damaged, [6, 6, 6]), &damaged), (untouched([6, 6, 6], Err(Refusal::RunInvalid)), &before));
     while run.stage == 1 {
         assert!(step(&mut run, [3, 3, 4]).0.is_ok());
     }

@@ -49,7 +49,7 @@ impl Run {
             && spelled(&self.items[..length]).is_ok_and(|(s0, _)| s0.len() == usize::from(self.size))
     }
 
-    fn is_sound(&self) -> bool {
+    fn is_valid(&self) -> bool {
         (1..=50).contains(&self.size)
             && match self.stage {
                 0 | 2 => self.has_no_word(),
@@ -60,7 +60,7 @@ impl Run {
 
     /// Step: the diagram written, or `None` at the end. 34; a finished run's end; 9.
     pub fn step(&mut self, rooms: Rooms) -> Result<Option<Written>, u16> {
-        if !self.is_sound() {
+        if !self.is_valid() {
             return Err(34);
         }
         if self.stage == 2 {
@@ -82,7 +82,7 @@ impl Run {
 
     /// So many steps, or as many as there are: the diagrams written. 34; a finished run's end; 9, where the lists are short.
     fn steps(&mut self, rows: u64, short: bool) -> Result<Vec<Written>, u16> {
-        if !self.is_sound() {
+        if !self.is_valid() {
             return Err(34);
         }
         if self.stage == 2 {

@@ -5,7 +5,7 @@ use crate::table::{ends, listed};
 
 /// The length of the word written, 0 at the end.
 pub fn step(run: &mut Run, s0: &mut [u16], s1: &mut [u16], word: &mut [u16]) -> Result<usize, u16> {
-    if !sound(run) {
+    if !valid(run) {
         return Err(34);
     }
     if run.stage == 2 {
@@ -25,7 +25,7 @@ pub fn step(run: &mut Run, s0: &mut [u16], s1: &mut [u16], word: &mut [u16]) -> 
     Ok(items.len())
 }
 
-fn sound(run: &Run) -> bool {
+fn valid(run: &Run) -> bool {
     if !listed(run.size as u64) || run.length > 51 {
         return false;
     }
@@ -88,7 +88,7 @@ fn above(h: usize, f: usize, item: u16) -> Option<(u16, usize, usize)> {
     [1, 2, jump].into_iter().find_map(|event| if event > item { leads(event) } else { None })
 }
 
-/// Moves a sound run, fresh or at a diagram, to the next word: the last item that can be raised is. False after the last word.
+/// Moves a valid run, fresh or at a diagram, to the next word: the last item that can be raised is. False after the last word.
 fn advance(run: &mut Run) -> bool {
     let n = run.size as usize;
     let (mut h, mut f) = (0, 0);

@@ -5,7 +5,7 @@ use crate::table::{ends, listed};
 
 /// The length of the word written, 0 at the end.
 pub fn step(run: &mut Run, s0: &mut [u16], s1: &mut [u16], word: &mut [u16]) -> Result<usize, u16> {
-    if !sound(run) {
+    if !valid(run) {
         return Err(34);
     }
     if run.stage == 2 {
@@ -25,7 +25,7 @@ pub fn step(run: &mut Run, s0: &mut [u16], s1: &mut [u16], word: &mut [u16]) -> 
     Ok(items.len())
 }
 
-fn sound(run: &Run) -> bool {
+fn valid(run: &Run) -> bool {
     if !listed(run.size as u64) || run.length > 51 || run.stage > 2 {
         return false;
     }
@@ -62,7 +62,7 @@ fn is_word(word: &[u16], n: usize) -> bool {
     good & (h == 0) & (f == 0)
 }
 
-/// Moves a sound run, fresh or at a diagram, to the next word; false, and the run as it was, after the last.
+/// Moves a valid run, fresh or at a diagram, to the next word; false, and the run as it was, after the last.
 fn advance(run: &mut Run) -> bool {
     let n = run.size as usize;
     let (mut h, mut f) = (0, 0);
