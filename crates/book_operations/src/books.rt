@@ -13,12 +13,12 @@ fn entered(b: Book, tick: u64, issues: u64, j: u64, p: u64, t: u64, e: u64) -> B
     ensures { λ r. ⌜ r ≡ entered b tick issues j p t e ⌝ }
 {
     let mut b = b;
-    let at = (j - 1) as usize;
+    let index = (j - 1) as usize;
     b.latest = tick;
     b.issued = issues;
-    b.next[at] = p;
-    b.ticket[at] = t;
-    b.expiry[at] = e;
+    b.next[index] = p;
+    b.ticket[index] = t;
+    b.expiry[index] = e;
     b
 }
 

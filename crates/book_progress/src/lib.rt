@@ -20,8 +20,8 @@ pub fn committed(h: Heads, nexts: &[u64]) -> u64
     let mut sum: u64 = 0;
     let mut i: u64 = 0;
     while i < h.shares {
-        let at = i as usize;
-        sum += nexts[at] - (last_of(total, h.shares, i) + 1);
+        let index = i as usize;
+        sum += nexts[index] - (last_of(total, h.shares, i) + 1);
         i += 1;
     }
     sum
@@ -35,8 +35,8 @@ pub fn complete(h: Heads, nexts: &[u64]) -> bool
     let total = count_of(h.size);
     let mut i: u64 = 0;
     while i < h.shares {
-        let at = i as usize;
-        if nexts[at] <= last_of(total, h.shares, i + 1) {
+        let index = i as usize;
+        if nexts[index] <= last_of(total, h.shares, i + 1) {
             return false;
         }
         i += 1;

@@ -91,12 +91,12 @@ pub fn change(numbers: &mut [u64; 100], c: Change)
             ticket,
             expiry,
         } => {
-            let at = share as usize;
+            let index = share as usize;
             numbers[2] = latest;
             numbers[3] = issued;
-            numbers[3 + at] = next;
-            numbers[35 + at] = ticket;
-            numbers[67 + at] = expiry;
+            numbers[3 + index] = next;
+            numbers[35 + index] = ticket;
+            numbers[67 + index] = expiry;
         }
     }
 }

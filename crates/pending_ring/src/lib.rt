@@ -23,12 +23,12 @@ pub fn push(next: &mut [u16; 1025], prev: &mut [u16; 1025], l: u16)
     requires { ⌜ ((s : List ℕ) × Ring (now next) (now prev) s) ⌝ }
     ensures { λ _. ⌜ ((s : List ℕ) → Ring (now (next .entry)) (now (prev .entry)) s → ¬ Has l s → Ring (now (next .exit)) (now (prev .exit)) (l ∷ s)) ⌝ }
 {
-    let at = to_index(l);
+    let index = to_index(l);
     let top = next[0];
     let t = to_index(top);
-    next[at] = top;
+    next[index] = top;
     next[0] = l;
-    prev[at] = 0;
+    prev[index] = 0;
     prev[t] = l;
 }
 
@@ -51,9 +51,9 @@ pub fn unhook(next: &mut [u16; 1025], prev: &mut [u16; 1025], l: u16)
     requires { ⌜ ((s : List ℕ) × Ring (now next) (now prev) s × Has l s) ⌝ }
     ensures { λ _. ⌜ ((s : List ℕ) → Ring (now (next .entry)) (now (prev .entry)) s → Has l s → Ring (now (next .exit)) (now (prev .exit)) (removeAt (find l s) s)) ⌝ }
 {
-    let at = to_index(l);
-    let above = prev[at];
-    let below = next[at];
+    let index = to_index(l);
+    let above = prev[index];
+    let below = next[index];
     let a = to_index(above);
     let b = to_index(below);
     next[a] = below;
@@ -68,8 +68,8 @@ pub fn depth(next: &[u16; 1025], l: u16) -> usize
     let mut cur = next[0];
     let mut d: usize = 0;
     while cur != l {
-        let at = to_index(cur);
-        cur = next[at];
+        let index = to_index(cur);
+        cur = next[index];
         d += 1;
     }
     d
@@ -83,8 +83,8 @@ pub fn label_at(next: &[u16; 1025], d: usize) -> u16
     let mut cur = next[0];
     let mut i: usize = 0;
     while i < d {
-        let at = to_index(cur);
-        cur = next[at];
+        let index = to_index(cur);
+        cur = next[index];
         i += 1;
     }
     cur

@@ -48,9 +48,9 @@ jump-deep D d w S e = go (S .pending) e
     go [] g = absurd (none≢some D g)
     go (k ∷ r) g = jumped D d k w r (S .black) (S .white) g .0
 
-pub goes-on : (D : Pair) (x : ℕ) (w : List ℕ) (S : State) → Goes D (x ∷ w) S → Goes D w (stateAfter x S)
+pub after-item : (D : Pair) (x : ℕ) (w : List ℕ) (S : State) → Goes D (x ∷ w) S → Goes D w (stateAfter x S)
 unfolding spells eventState
-goes-on D x w S e = go x (S .pending) e
+after-item D x w S e = go x (S .pending) e
   where
     go : (x : ℕ) (p : List ℕ) → spells (x ∷ w) p (S .black) (S .white) ≡ some D → Goes D w (eventState x (getD p 0 0) (removeAt 0 p) (S .black) (S .white))
     go x [] g = absurd (none≢some D g)
@@ -59,9 +59,9 @@ goes-on D x w S e = go x (S .pending) e
     go (suc (suc zero)) (k ∷ r) g = g
     go (suc (suc (suc d))) (k ∷ r) g = jumped D d k w r (S .black) (S .white) g .1
 
-pub sound-on : (D : Pair) (x : ℕ) (w : List ℕ) (S : State) → Goes D (x ∷ w) S → Sound S → Sound (stateAfter x S)
+pub sound-after-item : (D : Pair) (x : ℕ) (w : List ℕ) (S : State) → Goes D (x ∷ w) S → Sound S → Sound (stateAfter x S)
 unfolding spells eventState
-sound-on D x w S e s = go x (S .pending) e s
+sound-after-item D x w S e s = go x (S .pending) e s
   where
     go : (x : ℕ) (p : List ℕ) → spells (x ∷ w) p (S .black) (S .white) ≡ some D → growing.State p (S .black) (S .white) → Sound (eventState x (getD p 0 0) (removeAt 0 p) (S .black) (S .white))
     go x [] g s = absurd (none≢some D g)
@@ -75,7 +75,7 @@ sound-on D x w S e s = go x (S .pending) e s
 reached-good : (D : Pair) (u w : List ℕ) (S : State) → Goes D (u ++ w) S → Sound S → Goes D w (stateAfterAll u S) × Sound (stateAfterAll u S)
 unfolding stateAfterAll
 reached-good D [] w S e s = (e, s)
-reached-good D (x ∷ u) w S e s = reached-good D u w (stateAfter x S) (goes-on D x (u ++ w) S e) (sound-on D x (u ++ w) S e s)
+reached-good D (x ∷ u) w S e s = reached-good D u w (stateAfter x S) (after-item D x (u ++ w) S e) (sound-after-item D x (u ++ w) S e s)
 
 pub begun-good : (D : Pair) (p w : List ℕ) → 1 ≤ length p → spell (p ++ w) ≡ some D → Goes D w (stateOf p) × Sound (stateOf p)
 unfolding spell firstState stateOf

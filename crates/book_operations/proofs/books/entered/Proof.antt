@@ -7,8 +7,8 @@ use Rattle.book_operations.proofs.books.entered.Tie as tie
 use Rattle.book_operations.proofs.books.entered.Reads as reads
 use Rattle.book_operations.proofs.books.entered.Lts as lts
 
-sub-at : tie.Need-sub-at
-sub-at c = search needs
+sub-index : tie.Need-sub-index
+sub-index c = search needs
 
 mul-b : tie.Need-mul-b
 mul-b c = search needs
@@ -35,7 +35,7 @@ pub entered-spec : {M : Type 1} → statement M
 entered-spec =
     tie.close
     (tie.spec
-    sub-at
+    sub-index
     mul-b
     element-write-b
     mul-b-2
