@@ -13,5 +13,5 @@ pub copied-out : (s z : List ℕ) (from i : ℕ) → i < length z → from + i <
 copied-out s z from i hz hs = rw (sym (getD-drop from s i 0)) (copied-more z (drop from s) i hz (rw (length-drop from s) (omega arith)))
 
 -- a turn of the loop that copies in
-pub copied-in : (d s : List ℕ) (at i : ℕ) → at + i < length d → i < length s → set (paste d at s i) (at + i) (getD s i 0) ≡ paste d at s (i + 1)
-copied-in d s at i hd hs = rw add-one (paste-suc d at s i 0 hd hs)
+pub copied-in : (d s : List ℕ) (place i : ℕ) → place + i < length d → i < length s → set (paste d place s i) (place + i) (getD s i 0) ≡ paste d place s (i + 1)
+copied-in d s place i hd hs = rw add-one (paste-suc d place s i 0 hd hs)

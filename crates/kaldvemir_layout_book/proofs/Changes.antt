@@ -13,13 +13,13 @@ use Rattle.kaldvemir_layout_book.specs.Layout.{book-of, book-numbers}
 -- ---- a list of the book and a number written into the row
 
 -- in front of the list or behind it
-before : (l : List ℕ) (from at v : ℕ) → at < from → take 32 (drop from (set l at v)) ≡ take 32 (drop from l)
-before l from at v h = rw (drop-set-lt from l at v h)
+before : (l : List ℕ) (from place v : ℕ) → place < from → take 32 (drop from (set l place v)) ≡ take 32 (drop from l)
+before l from place v h = rw (drop-set-lt from l place v h)
 
-behind : (l : List ℕ) (from at v : ℕ) → from + 32 ≤ at → take 32 (drop from (set l at v)) ≡ take 32 (drop from l)
-behind l from at v h =
-    let e : at ≡ from + (at - from) = omega arith in
-    ap (λ (k : ℕ). take 32 (drop from (set l k v))) e ∙ rw (drop-set-add from l (at - from) v) (take-set-le 32 (drop from l) (at - from) v (omega arith))
+behind : (l : List ℕ) (from place v : ℕ) → from + 32 ≤ place → take 32 (drop from (set l place v)) ≡ take 32 (drop from l)
+behind l from place v h =
+    let e : place ≡ from + (place - from) = omega arith in
+    ap (λ (k : ℕ). take 32 (drop from (set l k v))) e ∙ rw (drop-set-add from l (place - from) v) (take-set-le 32 (drop from l) (place - from) v (omega arith))
 
 -- at the entry of share j
 inside : (l : List ℕ) (from j v : ℕ) → OneTo 32 j → take 32 (drop (suc from) (set l (from + j) v)) ≡ put (take 32 (drop (suc from) l)) j v

@@ -6,16 +6,16 @@ use native.Mathlib.Omega.{arith}
 use lib.ListN.{length, set, drop, length-drop, length-set, length-append, drop-of-length-le}
 use lib.Seq.{paste, length-paste, take-at, drop-append-add, take-all}
 
-pub pasted : (d s : List ℕ) (at : ℕ) → length d ≡ 100 → length s ≡ 32 → at + 32 ≤ 100 → length (paste d at s 32) ≡ 100
-pasted d s at hd hs h = length-paste d at s 32 (omega arith) (omega arith) ∙ hd
+pub pasted : (d s : List ℕ) (place : ℕ) → length d ≡ 100 → length s ≡ 32 → place + 32 ≤ 100 → length (paste d place s 32) ≡ 100
+pasted d s place hd hs h = length-paste d place s 32 (omega arith) (omega arith) ∙ hd
 
 pub headed : (l : List ℕ) (a b c d : ℕ) → length l ≡ 100 → length (set (set (set (set l 0 a) 1 b) 2 c) 3 d) ≡ 100
 headed l a b c d h = simp length-set h
 
 -- 32 numbers pasted in after those of p, with m behind them
-after : (p s m : List ℕ) (at : ℕ) → length p ≡ at → length s ≡ 32 → paste (p ++ m) at s 32 ≡ p ++ (s ++ drop 32 m)
-after p s m at hp hs =
-    rw (take-at p m at hp, take-all 32 s (omega arith), sym hp, drop-append-add p m 32, append-assoc) refl
+after : (p s m : List ℕ) (place : ℕ) → length p ≡ place → length s ≡ 32 → paste (p ++ m) place s 32 ≡ p ++ (s ++ drop 32 m)
+after p s m place hp hs =
+    rw (take-at p m place hp, take-all 32 s (omega arith), sym hp, drop-append-add p m 32, append-assoc) refl
 
 pub book-row : (l nx tk ex : List ℕ) (a b c d : ℕ) → length l ≡ 100 → length nx ≡ 32 → length tk ≡ 32 → length ex ≡ 32
     → paste (paste (paste (set (set (set (set l 0 a) 1 b) 2 c) 3 d) 4 nx 32) 36 tk 32) 68 ex 32 ≡ a ∷ b ∷ c ∷ d ∷ (nx ++ (tk ++ ex))
