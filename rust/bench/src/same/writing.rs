@@ -1,18 +1,18 @@
-//! The diagram of a word of a listed size, straight into the lists. The pending labels stand in a small array, the pile.
+//! The diagram of a word of a listed size, straight into the lists. The pending labels stand in a small array, the stack.
 
 pub fn write_diagram(word: &[u16], s0: &mut [u16], s1: &mut [u16]) {
-    let mut pile = [0u16; 64];
-    pile[..3].copy_from_slice(&[1, 2, 3]);
+    let mut stack = [0u16; 64];
+    stack[..3].copy_from_slice(&[1, 2, 3]);
     let (mut used, mut height) = begin(word[0], s0, s1);
     for &item in &word[1..] {
         height -= 1;
-        let k = pile[height];
+        let k = stack[height];
         match item {
             0 => {}
             1 => {
                 fork(s0, s1, k, used);
-                pile[height] = used as u16 + 2;
-                pile[height + 1] = used as u16 + 3;
+                stack[height] = used as u16 + 2;
+                stack[height + 1] = used as u16 + 3;
                 height += 2;
                 used += 3;
             }
@@ -24,9 +24,9 @@ pub fn write_diagram(word: &[u16], s0: &mut [u16], s1: &mut [u16]) {
             _ => {
                 height -= 1;
                 let at = height - (item as usize - 3);
-                let p = pile[at];
+                let p = stack[at];
                 for i in at..height {
-                    pile[i] = pile[i + 1];
+                    stack[i] = stack[i + 1];
                 }
                 pair(s1, k, p);
             }

@@ -1,4 +1,4 @@
-//! The pending edges as an array. The entries stand in a room apart from the pile itself, so that its height is kept in a register.
+//! The pending edges as an array. The entries stand in a room apart from the stack itself, so that its height is kept in a register.
 use super::SMALL;
 
 /// A stack from which any edge can be taken out, its top at the end.
@@ -8,7 +8,7 @@ pub struct Pile<'a, const N: usize> {
 }
 
 impl<'a, const N: usize> Pile<'a, N> {
-    /// An empty pile.
+    /// An empty stack.
     #[inline(always)]
     pub fn over(edges: &'a mut [u16; N]) -> Self {
         Pile { edges, height: 0 }
