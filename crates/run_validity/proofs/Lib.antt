@@ -1,2 +1,3 @@
 pub mod Validity
 pub mod Standing
+pub mod Runs

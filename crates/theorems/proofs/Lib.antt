@@ -1,4 +1,3 @@
-pub mod Runs
 pub mod Listing
 pub mod Invariants
 pub mod Demand2

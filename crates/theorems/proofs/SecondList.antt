@@ -26,7 +26,7 @@ use Rattle.run_steps.specs.Promises.{fresh, finished, runAfter, RunAt, RunFinis
 use Rattle.run_row.proofs.Blocks.{black-length, white-length}
 use Rattle.theorems.specs.FirstList.{InPlace}
 use Rattle.theorems.specs.SecondList.{Step, History, writes, written, Row, rowOf, handed, rows, rowAt, IsRow, StepDoes, Accepted, SecondList, SecondListHolds}
-use Rattle.theorems.proofs.Runs.{given-once, not-over}
+use Rattle.run_validity.proofs.Runs.{given-once, not-over}
 use Rattle.theorems.proofs.FirstList.{in-place, placed-once}
 
 -- the run has given p diagrams, and may have answered "end" if these are all

@@ -23,7 +23,7 @@ use Rattle.run_blocks_answers.specs.declared.Listing.the-variants.{Rows, Refuse
 use Rattle.run_blocks.specs.Rows.{MarkOf, Marks, MarksWritten}
 use Rattle.run_blocks.specs.Promises.{ShortRows, Block, RunAfterRows, ListsUntouched, RefusedList, ListPromise, ListMarkedPromise}
 use Rattle.theorems.specs.Determined.{SameLists}
-use Rattle.theorems.proofs.Runs.{stands-once, stands-not-over}
+use Rattle.run_validity.proofs.Runs.{stands-once, stands-not-over}
 use Rattle.theorems.proofs.Determined.Diagrams.{written-once, untouched-once}
 
 -- ---- the beginning

@@ -9,7 +9,7 @@ use Rattle.listing.specs.Listing.{count}
 use Rattle.listing.specs.Position.{wordAt}
 use Rattle.listing.proofs.Positions.{at-once}
 use Rattle.run_answers.specs.declared.Run.{Run}
-use Rattle.run_steps.specs.Promises.{finished, runAfter, RunAt, RunFinished}
+use Rattle.run_answers.specs.Promises.{finished, runAfter, RunAt, RunFinished}
 
 front : (u v x y : List ℕ) → length u ≡ length v → u ++ x ≡ v ++ y → u ≡ v
 front u v x y l e = sym (take-at u x (length v) l) ∙ ap (take (length v)) e ∙ take-at v y (length v) refl
