@@ -20,7 +20,7 @@ pub struct Listed {
 }
 
 // Whether a list has fewer places than rows of so many places each.
-fn short(places: usize, rows: usize, each: usize) -> bool
+pub fn short(places: usize, rows: usize, each: usize) -> bool
     requires { ⌜ 1 ≤ each ⌝ }
     ensures { λ r. ⌜ ((r ≡ true → places < rows * each) × (r ≡ false → ¬ (places < rows * each))) ⌝ }
 {
