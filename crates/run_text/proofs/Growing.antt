@@ -156,3 +156,16 @@ module _ {n p all : ℕ} {before : List ℕ} {run : Run} {out : List ℕ} {bytes
 
   pub growing-all : all ≤ done → RowsText n p all before bytes kept run out
   growing-all h = let f = G .few in let e : done ≡ all = omega arith in rw e at (G .text)
+
+-- ---- the room that is asked for
+
+pub row-some : (n r : ℕ) → r ≡ rowBytes n → 1 ≤ r
+unfolding rowBytes
+row-some n r e = omega arith
+
+pub room-asked : (n r asked l : ℕ) → r ≡ rowBytes n → ¬ (l < asked * r) → asked * rowBytes n ≤ l
+room-asked n r asked l e h = rw (← e) (omega arith)
+
+-- where all that is asked for has room, so has what there is of it
+pub room-given : (n k asked l : ℕ) → k ≤ asked → asked * rowBytes n ≤ l → k * rowBytes n ≤ l
+room-given n k asked l h r = let m = mul-le-mul-right (rowBytes n) h in omega arith
