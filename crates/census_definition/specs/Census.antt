@@ -13,6 +13,7 @@
 --   keptAmong n p k     how many of these diagrams are kept
 --   header n            the first line;  totals k m, the last line: k listed, m kept
 --   census n            the whole text
+--   refusal k           the line that stands in its place where the input is refused with the number k
 --   rowBytes n          bytes enough for a row of size n (theorem `row-fits`)
 use mathlib.Core.Bool.{Bool, cond}
 use mathlib.Core.List.{List, [], _∷_, _++_, map}
@@ -91,6 +92,9 @@ totals k m = decimal k ++ (ascii " listed, " ++ (decimal m ++ ascii " kept\n"))
 
 unfoldable pub census : ℕ → List ℕ
 census n = header n ++ (rows n 0 (count n) ++ totals (count n) (keptAmong n 0 (count n)))
+
+unfoldable pub refusal : ℕ → List ℕ
+refusal k = ascii "refused " ++ (decimal k ++ ascii "\n")
 
 -- ---- room
 

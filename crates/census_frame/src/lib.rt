@@ -1,15 +1,17 @@
-// The header and the last line of a census, and the line of a refusal, as document 01 shows them ("Small sizes, by hand"). Each is written from the
-// beginning of a lent buffer as crate text_printing_pieces writes: the place after it is handed back, and a piece that does not fit is left out.
+// The header and the last line of a census, and the line of a refusal, as document 01 shows them ("Small sizes, by hand"). Each is written over
+// the beginning of a lent list of bytes, which has room for it.
 use text_printing_pieces::put_byte;
 use text_printing_pieces::put_number;
 use text_printing_pieces::put_text;
-ghost use mathlib.Core.Path.{_≡_};
-ghost use Rattle.text_printing_pieces.specs.Pieces.{output, putAll};
-ghost use Rattle.census_frame.specs.Frame.{headerPieces, totalsPieces, refusalPieces};
+ghost use Prim.Native.Nat.{_≤_};
+ghost use lib.ListN.{length};
+ghost use Rattle.words_decimals.specs.Decimals.{BytesWritten};
+ghost use Rattle.census_definition.specs.Census.{header, totals, refusal};
 
 // The header.
 pub fn put_header(out: &mut [u8], size: u64) -> usize
-    ensures { λ r. ⌜ output (now (out .exit)) r ≡ putAll (headerPieces size) (output (now (out .entry)) 0) ⌝ }
+    requires { ⌜ 64 ≤ length (now out) ⌝ }
+    ensures { λ r. ⌜ BytesWritten (now (out .entry)) 0 (header size) r (now (out .exit)) ⌝ }
 {
     let number = put_text(out, 0, b"rooted trivalent diagrams, size ");
     let end = put_number(out, number, size);
@@ -18,7 +20,8 @@ pub fn put_header(out: &mut [u8], size: u64) -> usize
 
 // The last line: how many diagrams were listed, and how many of them are kept.
 pub fn put_totals(out: &mut [u8], listed: u64, kept: u64) -> usize
-    ensures { λ r. ⌜ output (now (out .exit)) r ≡ putAll (totalsPieces listed kept) (output (now (out .entry)) 0) ⌝ }
+    requires { ⌜ 64 ≤ length (now out) ⌝ }
+    ensures { λ r. ⌜ BytesWritten (now (out .entry)) 0 (totals listed kept) r (now (out .exit)) ⌝ }
 {
     let second = put_number(out, 0, listed);
     let third = put_text(out, second, b" listed, ");
@@ -28,7 +31,8 @@ pub fn put_totals(out: &mut [u8], listed: u64, kept: u64) -> usize
 
 // The line of a refusal.
 pub fn put_refusal(out: &mut [u8], number: u16) -> usize
-    ensures { λ r. ⌜ output (now (out .exit)) r ≡ putAll (refusalPieces number) (output (now (out .entry)) 0) ⌝ }
+    requires { ⌜ 64 ≤ length (now out) ⌝ }
+    ensures { λ r. ⌜ BytesWritten (now (out .entry)) 0 (refusal number) r (now (out .exit)) ⌝ }
 {
     let digits = put_text(out, 0, b"refused ");
     let end = put_number(out, digits, number as u64);

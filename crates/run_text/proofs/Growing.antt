@@ -28,7 +28,7 @@ use Rattle.census_blocks.proofs.Texts.{rows-fit}
 
 -- ---- rows after rows
 
-rows-then : (n p j k : ℕ) → rows n p (j + k) ≡ rows n p j ++ rows n (p + j) k
+pub rows-then : (n p j k : ℕ) → rows n p (j + k) ≡ rows n p j ++ rows n (p + j) k
 unfolding rows
 rows-then n p j zero = rw (add-zero j) (sym (append-nil (rows n p j)))
 rows-then n p j (suc k) =
@@ -36,7 +36,7 @@ rows-then n p j (suc k) =
     let f : p + (j + k) ≡ (p + j) + k = omega arith in
     rw (e, rows-then n p j k, f) (append-assoc (rows n p j) (rows n (p + j) k) (row n (suc ((p + j) + k))))
 
-kept-then : (n p j k : ℕ) → keptAmong n p (j + k) ≡ keptAmong n p j + keptAmong n (p + j) k
+pub kept-then : (n p j k : ℕ) → keptAmong n p (j + k) ≡ keptAmong n p j + keptAmong n (p + j) k
 unfolding keptAmong
 kept-then n p j zero = rw (add-zero j) (omega arith)
 kept-then n p j (suc k) =
@@ -83,7 +83,7 @@ pub growing-none : (n p all : ℕ) (before : List ℕ) (run : Run) → RunAt n p
 unfolding rows keptAmong
 growing-none n p all before run R = record { few = omega arith; long = refl; text = record { bytes-are = refl; kept-are = refl; next-is = rw add-zero (R .is); written = refl } }
 
-kept-most : (n p k : ℕ) → keptAmong n p k ≤ k
+pub kept-most : (n p k : ℕ) → keptAmong n p k ≤ k
 unfolding keptAmong
 kept-most n p zero = omega arith
 kept-most n p (suc k) = go (isKept (diagramAt n (suc (p + k)))) (kept-most n p k)

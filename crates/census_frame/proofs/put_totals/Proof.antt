@@ -1,6 +1,8 @@
 -- The two numbers, each with its text.
 use Rattle.text_printing_pieces.proofs.Pieces.{puts-then, puts-last}
-use Rattle.census_frame.specs.Frame.{totalsPieces}
+use native.Mathlib.Omega.{arith}
+use Rattle.census_definition.specs.Census.{totals}
+use Rattle.census_frame.proofs.Frame.{pieces-written, totals-flat, totals-length}
 use borrow.Author.Needs.{needs}
 use Rattle.census_frame.proofs.put_totals.Statement.{statement}
 use Rattle.census_frame.proofs.put_totals.Tie as tie
@@ -27,8 +29,11 @@ same-length : tie.Need-same-length
 same-length c = search needs
 
 returns : tie.Need-returns
-unfolding totalsPieces
-returns c = puts-then _ _ _ _ _ (c .before .before .before .before .before .before .before .before .before .before .before .before .before .before .before .before .put-number .ensures) (puts-then _ _ _ _ _ (c .before .before .before .before .before .before .before .before .before .before .before .put-text .ensures) (puts-then _ _ _ _ _ (c .before .before .before .before .before .before .before .put-number2 .ensures) (puts-last _ _ _ (c .before .before .put-text2 .ensures))))
+unfolding totals
+returns c =
+    let n = c .before .before .before .before .before .before .before .before .before .before .before .before .before .before .before .before .before .before .before in
+    pieces-written _ _ _ _ _ (totals-flat _ _ _ _) (omega (arith, totals-length (n .args .listed) (n .args .kept), n .pre))
+    (puts-then _ _ _ _ _ (c .before .before .before .before .before .before .before .before .before .before .before .before .before .before .before .before .put-number .ensures) (puts-then _ _ _ _ _ (c .before .before .before .before .before .before .before .before .before .before .before .put-text .ensures) (puts-then _ _ _ _ _ (c .before .before .before .before .before .before .before .put-number2 .ensures) (puts-last _ _ _ (c .before .before .put-text2 .ensures)))))
 
 pub put-totals-spec : {M : Type 1} → statement M
 put-totals-spec =
