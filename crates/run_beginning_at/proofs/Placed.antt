@@ -15,9 +15,9 @@ use Rattle.run_answers.specs.declared.Run.{Run}
 use Rattle.run_answers.specs.Promises.{fresh, atWord, RunAt}
 
 -- a word that is written over 51 zeros leaves zeros after it
-pub written-run : (n p length′ : ℕ) (items : List ℕ) → OneTo 50 n → OneTo (count n) p → length′ ≡ length (wordAt n p) → items ≡ overwrite (wordAt n p) (replicate 51 0)
-    → _≡_ {A = Run} record { size = n; stage = 1; length = length′; items = items } (atWord n (wordAt n p))
-written-run n p length′ items N P e q =
+pub written-run : (n p m : ℕ) (items : List ℕ) → OneTo 50 n → OneTo (count n) p → m ≡ length (wordAt n p) → items ≡ overwrite (wordAt n p) (replicate 51 0)
+    → _≡_ {A = Run} record { size = n; stage = 1; length = m; items = items } (atWord n (wordAt n p))
+written-run n p m items N P e q =
     let w = wordAt n p in
     let l : length w ≤ 51 = (let i = word-length n w (at-word n p P) in omega arith) in
     rw (e, q ∙ ap (λ (z : List ℕ). w ++ z) (drop-zeros 51 (length w) l))
