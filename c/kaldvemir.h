@@ -12,7 +12,7 @@
  *
  * What is passed to be read must be initialised before the call: numbers, lists behind a pointer to const, a run that is stepped or listed, a
  * book that is not being opened. What is passed to be written need not be: numbers and lists behind the other pointers, the run before
- * kaldvemir_begin, the book before kaldvemir_open. Nothing there is read before the call has written it, and a refused call leaves it alone, so
+ * kaldvemir_begin and kaldvemir_begin_at, the book before kaldvemir_open. Nothing there is read before the call has written it, and a refused call leaves it alone, so
  * that after a refusal it is as uninitialised as it was.
  *
  * A diagram is lent as s0, s1 and root: entry i - 1 of s0 (of s1) is the next edge round the black (white) vertex of edge i. A diagram that
@@ -119,6 +119,10 @@ uint16_t kaldvemir_plain_walk(uint64_t size, uint16_t *words, size_t words_len, 
 
 /* Run, beginning: 31. */
 uint16_t kaldvemir_begin(uint64_t size, kaldvemir_run *run);
+
+/* Run, beginning at a position: the run that has given so many diagrams, without walking to it; its next step gives the diagram at the
+ * position after. At position 0 it is fresh. 31; 32 position above the count. */
+uint16_t kaldvemir_begin_at(uint64_t size, uint64_t position, kaldvemir_run *run);
 
 /* Run, step: writes the next diagram of the run's size, its word and the word's length. After the last diagram, and whenever the run is
  * finished, it writes a length of 0 and nothing else: "end". 34 the run is neither fresh, nor at a diagram, nor finished; 9. */

@@ -137,6 +137,7 @@ pub fn on_line(
         at|aNN012|0 1 2;\
         book|7|A B C D 6 7 8;\
         begin|BN|ok;\
+        begin-at|ANN|ok;\
         check|cLLN|ok;\
         claim|CNNN|ticket A;\
         commit|PNNN|ok;\

@@ -20,6 +20,7 @@
 //   position S0 S1 ROOT                            its number
 //   walk N [ROOM]                                  how many numbers, and the numbers
 //   begin N                                        ok
+//   begin-at N P                                   ok
 //   step [R0 R1 RW]                                S0 S1 WORD or end; a step before any accepted begin is refused 34
 //   list ROWS [R0 R1 RW RL]                        how many diagrams of the run, at most ROWS; their black lists, white lists, words and the
 //                                                  words' lengths, each one after another; lists of 2,048 places where the rooms are left out

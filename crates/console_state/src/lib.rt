@@ -41,6 +41,7 @@ pub fn on_state(
 ) -> Reply {
     let rows = values[1];
     match letter {
+        b'A' => run::begin_at(run, rows, values[2]),
         b'B' => run::begin(run, rows),
         b'L' => run::list(run, rows, s0, s1, words, lengths),
         b'M' => run::list_marked(run, rows, s0, s1, words, lengths, marks),

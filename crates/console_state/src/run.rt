@@ -5,12 +5,18 @@ use console_replies::done;
 use console_replies::long;
 use console_replies::shown;
 use kaldvemir::runs::kaldvemir_begin;
+use kaldvemir::runs::kaldvemir_begin_at;
 use kaldvemir::runs::kaldvemir_list;
 use kaldvemir::runs::kaldvemir_list_marked;
 use kaldvemir::runs::kaldvemir_step;
 
 pub fn begin(run: &mut [u16; 54], size: u64) -> Reply {
     done(kaldvemir_begin(size, run))
+}
+
+// The run that has given so many diagrams.
+pub fn begin_at(run: &mut [u16; 54], size: u64, position: u64) -> Reply {
+    done(kaldvemir_begin_at(size, position, run))
 }
 
 pub fn step(run: &mut [u16; 54], s0: &mut [u16], s1: &mut [u16], word: &mut [u16]) -> Reply {

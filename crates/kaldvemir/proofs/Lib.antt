@@ -1,2 +1,3 @@
+mod Begun
 mod Stepped
 mod Blocks

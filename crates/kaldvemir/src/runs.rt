@@ -1,10 +1,11 @@
 // Runs. A run lies with the caller as 54 numbers.
+use kaldvemir_answers_run::begin_answer;
 use kaldvemir_answers_run::list_answer;
 use kaldvemir_answers_run::step_answer;
 use kaldvemir_layout_run::held;
 use run_steps::Beginning;
 ghost use mathlib.Core.Path.{_≡_};
-ghost use Rattle.run_steps.specs.Promises.{BeginPromise, StepPromise};
+ghost use Rattle.run_steps.specs.Promises.{BeginPromise, BeginAtPromise, StepPromise};
 ghost use Rattle.run_answers.specs.declared.Run.{Run};
 ghost use Rattle.run_answers.specs.declared.Beginning.{Beginning};
 ghost use Rattle.run_answers.specs.declared.Stepping.{Stepping};
@@ -32,6 +33,19 @@ pub extern "C" fn kaldvemir_begin(size: u64, run: &mut [u16; 54]) -> u16
             0
         }
     }
+}
+
+#[no_mangle]
+pub extern "C" fn kaldvemir_begin_at(size: u64, position: u64, run: &mut [u16; 54]) -> u16
+    ensures { λ r. ⌜ ((a : Beginning) × (next : Run)
+        × BeginAtPromise size position next a
+        × (r ≡ answers.begin-number a)
+        × (now (run .exit) ≡ layout.begin-numbers a next (now (run .entry)))) ⌝ }
+{
+    let begun = run_steps::begin_at(size, position);
+    let answer = begun.answer;
+    let next = begun.run;
+    begin_answer(answer, next, run)
 }
 
 #[no_mangle]

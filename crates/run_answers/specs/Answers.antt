@@ -1,7 +1,7 @@
 -- The answers of a run's beginning and step, as document 01 numbers them: a number is 01's of the refusal, 0 where the call is
 -- accepted; a value is the answer's own, or `old` where the answer has no such value.
 --
---   begin-number answer    31, or 0
+--   begin-number answer    31 or, at a position, 32, or 0
 --   step-number answer     34 or 9, or 0;  step-length, the word's length, 0 for "end"
 use Prim.Native.Nat.{ℕ}
 use Rattle.run_answers.specs.declared.Beginning.{Beginning}

@@ -1,4 +1,4 @@
--- What the beginning and the step of a run promise (document 01, "Run"), by the cases of their answers, whose
+-- What the beginning of a run, first or at a position, and its step promise (document 01, "Run"), by the cases of their answers, whose
 -- number and values are those of specs/Answers. A run is an iterator over the list of a size, with a state that can be stored.
 -- Lists named a are as they were lent, lists named b as they are handed back.
 --
@@ -54,6 +54,12 @@ pub record RunFinished (n : ℕ) (run : Run) : Type 0 where
 abbrev pub BeginPromise : ℕ → Run → Beginning → Type 0
 BeginPromise n run beginning.Begun = OneTo 50 n × (run ≡ fresh n)
 BeginPromise n run (beginning.Refused k) = (begin-number (beginning.Refused k) ≡ 31) × (¬ OneTo 50 n) × (run ≡ blank)
+
+-- 31: the size is outside 1..50; 32: the position is above the count. Otherwise the run that has given p diagrams
+abbrev pub BeginAtPromise : ℕ → ℕ → Run → Beginning → Type 0
+BeginAtPromise n p run beginning.Begun = RunAt n p run
+BeginAtPromise n p run (beginning.Refused k) =
+    (((begin-number (beginning.Refused k) ≡ 31) × (¬ OneTo 50 n)) ⊎ ((begin-number (beginning.Refused k) ≡ 32) × OneTo 50 n × (count n < p))) × (run ≡ blank)
 
 -- 34: the run is neither fresh, nor at a diagram, nor finished; 9: it is not finished, and an output list is short
 abbrev pub RefusedStep : Run → List ℕ → List ℕ → List ℕ → ℕ → Type 0

@@ -1,30 +1,30 @@
--- A listing in blocks is a history of steps, and the plain walk writes the words of the rows that a run gave. The steps are lent lists of zeros.
+-- A listing in blocks is a history of steps, and the plain walk writes the words of the rows that a run gave.
 use mathlib.Core.Path.{_≡_, refl, sym, ap, _∙_}
-use mathlib.Core.Logic.{_⊎_, inl, inr, ⊎-elim}
+use mathlib.Core.Logic.{_⊎_, inl, inr}
 use mathlib.Core.List.{List, [], _∷_, _++_, map, map-append, append-assoc, append-nil}
 use Prim.Native.Nat.{ℕ, zero, suc, _+_, _≤_, _<_}
-use native.Mathlib.Nat.{add-zero}
 use native.Mathlib.Omega.{arith}
-use lib.ListN.{length, replicate, take, drop, getD, length-replicate, length-drop}
+use lib.ListN.{length, take, drop, getD, length-drop}
 use lib.Seq.{take-suc, drop-cons, getD-drop}
 use Rattle.lists.specs.Lists.{at}
 use Rattle.lists.specs.Ranges.{OneTo}
 use Rattle.lists.proofs.Tests.{lt?}
-use Rattle.words.specs.Outputs.{Short, overwrite}
+use Rattle.words.specs.Outputs.{overwrite}
 use Rattle.listing.specs.Listing.{listing, count}
 use Rattle.listing.specs.Position.{wordAt}
 use Rattle.listing.specs.Diagrams.{diagramAt}
 use Rattle.listing_plain_walk.specs.Promises.{concatenated}
 use Rattle.run_answers.specs.declared.Run.{Run}
 use Rattle.run_answers.specs.declared.Stepping.{Stepping}
-use Rattle.run_answers.specs.declared.Stepping.the-variants.{Length, End, Refused}
-use Rattle.run_steps.specs.Promises.{runAfter, finished, RunAt, RunFinished, RefusedStep}
+use Rattle.run_answers.specs.declared.Stepping.the-variants.{Length, Refused}
+use Rattle.run_steps.specs.Promises.{runAfter, RunAt, RunFinished, RefusedStep}
 use Rattle.run_steps.proofs.Standing.{stands-size}
 use Rattle.run_blocks_answers.specs.declared.Listing.the-variants as listing
 use Rattle.run_blocks.specs.Rows.{blacks, whites, flatWords, lengths, MarkOf}
 use Rattle.run_blocks.specs.Promises.{RunAfterRows, NoRows, RowsGiven, RefusedList, MarkedRowsGiven}
-use Rattle.theorems.specs.SecondList.{Step, Happened, History, written, Row, rowOf, rows, rowAt}
+use Rattle.theorems.specs.SecondList.{Step, History, written, Row, rowOf, rows, rowAt}
 use Rattle.theorems.specs.Blocks.{column, lengthsOf, BlockAnswers, AsSteps, AsRefused, BlocksAreSteps, MarkedAsSteps, MarkedBlocksAreSteps, WalkAgreesHolds}
+use Rattle.theorems.proofs.Steps.{endStep, stepsFrom, end-happens, from-happened, from-written}
 use Rattle.theorems.proofs.SecondList.{rows-all, row-at, words-rows, second-list-holds}
 
 -- ---- rows one after another
@@ -55,69 +55,15 @@ module _ (n p : ℕ) (f : Row → List ℕ) (B : ℕ → List ℕ) (none : B zer
         append-nil,
       )
 
--- ---- the steps
-
-not-short : (n : ℕ) → ¬ Short n (replicate n 0) (replicate n 0) (replicate (suc n) 0)
-not-short n (inl l) = let e = length-replicate {A = ℕ} n 0 in omega arith
-not-short n (inr (inl l)) = let e = length-replicate {A = ℕ} n 0 in omega arith
-not-short n (inr (inr l)) = let e = length-replicate {A = ℕ} (suc n) 0 in omega arith
-
--- the step that gives the diagram after position p
-abbrev stepAt : ℕ → ℕ → Step
-stepAt n p = record {
-  s0 = replicate n 0;
-  s1 = replicate n 0;
-  word = replicate (suc n) 0;
-  s0-after = overwrite (diagramAt n (suc p) .black) (replicate n 0);
-  s1-after = overwrite (diagramAt n (suc p) .white) (replicate n 0);
-  word-after = overwrite (wordAt n (suc p)) (replicate (suc n) 0);
-  answer = Length (length (wordAt n (suc p)));
-}
-
--- the step that answers "end"
-abbrev endStep : ℕ → Step
-endStep n = record {
-  s0 = replicate n 0;
-  s1 = replicate n 0;
-  word = replicate (suc n) 0;
-  s0-after = replicate n 0;
-  s1-after = replicate n 0;
-  word-after = replicate (suc n) 0;
-  answer = End;
-}
-
--- k steps from position p on, and then `more`
-abbrev stepsFrom : ℕ → ℕ → ℕ → List Step → List Step
-stepsFrom n p zero more = more
-stepsFrom n p (suc k) more = stepAt n p ∷ stepsFrom n (suc p) k more
+-- ---- the answers of the steps
 
 abbrev answersOf : List Step → List Stepping
 answersOf steps = map (λ (s : Step). s .answer) steps
 
-end-happens : (n : ℕ) (run next : Run) → next ≡ finished n → RunFinished n run ⊎ RunAt n (count n) run → Happened run next (endStep n)
-end-happens n run next e T = (
-  (n, e, ⊎-elim (λ O. inl O) (λ S. inr (S, not-short n)) T),
-  record { s0-same = refl; s1-same = refl; word-same = refl },
-)
-
-module _ (n : ℕ) (more : List Step) where
-  from-happened : OneTo 50 n → (k p : ℕ) (run end : Run) → RunAt n p run → p + k ≤ count n → History (runAfter n (p + k)) more end → History run (stepsFrom n p k more) end
-  from-happened N zero p run end T l h = rw (T .is) (rw add-zero at h)
-  from-happened N (suc k) p run end T l h =
-      let z : p + suc k ≡ suc p + k = omega arith in (
-        runAfter n (suc p),
-        (n, p, T, omega arith, not-short n, refl, refl, record { s0-written = refl; s1-written = refl; word-written = refl }),
-        from-happened N k (suc p) (runAfter n (suc p)) end record { sized = N; within = omega arith; is = refl } (omega arith) (rw z at h),
-      )
-
-  from-written : (k p : ℕ) → written (stepsFrom n p k more) ≡ k + written more
-  from-written zero p = omega arith
-  from-written (suc k) p = let e = from-written k (suc p) in omega arith
-
-  from-answers : (k p : ℕ) → p + k ≤ count n → answersOf (stepsFrom n p k more) ≡ map Length (lengthsOf (map rowOf (take k (drop p (listing n))))) ++ answersOf more
-  unfolding wordAt count
-  from-answers zero p l = refl
-  from-answers (suc k) p l = rw (drop-cons (listing n) p [] (omega arith), from-answers k (suc p) (omega arith))
+from-answers : (n : ℕ) (more : List Step) (k p : ℕ) → p + k ≤ count n → answersOf (stepsFrom n p k more) ≡ map Length (lengthsOf (map rowOf (take k (drop p (listing n))))) ++ answersOf more
+unfolding wordAt count
+from-answers n more zero p l = refl
+from-answers n more (suc k) p l = rw (drop-cons (listing n) p [] (omega arith), from-answers n more k (suc p) (omega arith))
 
 -- ---- a listing in blocks
 

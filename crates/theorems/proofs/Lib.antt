@@ -3,6 +3,7 @@ pub mod Invariants
 pub mod Demand2
 pub mod KeepMark
 pub mod FirstList
+pub mod Steps
 pub mod SecondList
 pub mod Blocks
 pub mod Demand3

@@ -25,8 +25,9 @@ use Rattle.run_answers.specs.declared.Stepping.the-variants.{Length, End, Refus
 use Rattle.run_steps.specs.Promises.{fresh, finished, runAfter, RunAt, RunFinished, StepPromise}
 use Rattle.run_row.proofs.Blocks.{black-length, white-length}
 use Rattle.theorems.specs.FirstList.{InPlace}
-use Rattle.theorems.specs.SecondList.{Step, History, writes, written, Row, rowOf, handed, rows, rowAt, IsRow, StepDoes, Accepted, SecondList, SecondListHolds}
 use Rattle.run_validity.proofs.Runs.{given-once, not-over}
+use Rattle.theorems.specs.SecondList.{Step, History, writes, written, Row, rowOf, handed, rows, rowAt, IsRow, StepDoes, Accepted, SecondList, SecondListHolds, BegunAtHolds}
+use Rattle.theorems.proofs.Steps.{stepsFrom, from-happened, from-written}
 use Rattle.theorems.proofs.FirstList.{in-place, placed-once}
 
 -- the run has given p diagrams, and may have answered "end" if these are all
@@ -207,3 +208,15 @@ pub second-list-holds : SecondListHolds
 second-list-holds n run B steps end h =
     let z : written steps + 0 ≡ written steps = omega arith in
     second-list n (B .0) steps end (rw z at (standing-all n (B .0) steps run end 0 (begun n run B) h)) (rows-all n (B .0) steps run end 0 (begun n run B) h)
+
+-- ---- a run that begins at a position: p steps from the fresh run leave it
+
+pub begun-at-holds : BegunAtHolds
+begun-at-holds n p run start S B =
+    let z : 0 + p ≡ p = omega arith in
+    let l = S .within in
+    let w = from-written n [] p 0 in (
+      stepsFrom n 0 p [],
+      from-happened n [] (B .0) p 0 start run record { sized = B .0; within = omega arith; is = B .1 } (omega arith) (rw z (S .is)),
+      omega arith,
+    )

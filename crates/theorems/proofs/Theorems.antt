@@ -3,6 +3,7 @@ use Rattle.theorems.specs.Theorems.{Theorems}
 use Rattle.theorems.proofs.Demand2.{demand-2}
 use Rattle.theorems.proofs.Demand3.{demand-3}
 use Rattle.theorems.proofs.Corollaries.{corollaries-hold}
+use Rattle.theorems.proofs.SecondList.{begun-at-holds}
 use Rattle.theorems.proofs.Blocks.{blocks-are-steps, marked-blocks-are-steps, walk-agrees-holds}
 use Rattle.theorems.proofs.BookNumbers.{book-numbers}
 use Rattle.theorems.proofs.Determined.{determined}
@@ -13,6 +14,7 @@ theorems = record {
   demand-2 = demand-2;
   demand-3 = demand-3;
   corollaries = corollaries-hold;
+  begun-at = begun-at-holds;
   blocks = blocks-are-steps;
   marked-blocks = marked-blocks-are-steps;
   walk = walk-agrees-holds;

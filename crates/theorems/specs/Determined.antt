@@ -37,7 +37,7 @@ use Rattle.listing_plain_walk.specs.Promises.{PlainWalkPromise}
 use Rattle.run_answers.specs.declared.Run.{Run}
 use Rattle.run_answers.specs.declared.Beginning.{Beginning}
 use Rattle.run_answers.specs.declared.Stepping.{Stepping}
-use Rattle.run_steps.specs.Promises.{BeginPromise, StepPromise}
+use Rattle.run_steps.specs.Promises.{BeginPromise, BeginAtPromise, StepPromise}
 use Rattle.run_blocks_answers.specs.declared.Listing.{Listing}
 use Rattle.run_blocks.specs.Promises.{ListPromise, ListMarkedPromise}
 use Rattle.book.specs.declared.types.Book.{Book}
@@ -79,8 +79,9 @@ pub record Determined : Type 0 where
   pub position-once : (s0 s1 : List ℕ) (root : ℕ) (r q : Place) → PositionPromise s0 s1 root r → PositionPromise s0 s1 root q → r ≡ q
   -- the plain walk
   pub plain-walk-once : (n : ℕ) (a b c : List ℕ) (r q : Walked) → PlainWalkPromise n a b r → PlainWalkPromise n a c q → (r ≡ q) × (b ≡ c)
-  -- a run's beginning and step; `next` and `other` are the run that is left
+  -- a run's beginning, first and at a position, and its step; `next` and `other` are the run that is left
   pub begin-once : (n : ℕ) (next other : Run) (r q : Beginning) → BeginPromise n next r → BeginPromise n other q → (r ≡ q) × (next ≡ other)
+  pub begin-at-once : (n p : ℕ) (next other : Run) (r q : Beginning) → BeginAtPromise n p next r → BeginAtPromise n p other q → (r ≡ q) × (next ≡ other)
   pub step-once : (run next other : Run) (a0 a1 aw b0 b1 bw c0 c1 cw : List ℕ) (r q : Stepping) → StepPromise run next a0 a1 aw b0 b1 bw r → StepPromise run other a0 a1 aw c0 c1 cw q
       → (r ≡ q) × (next ≡ other) × SameLists b0 b1 bw c0 c1 cw
   -- a listing in blocks, without keep marks and with them

@@ -15,7 +15,8 @@
 --   StepDoes n p end next s ..   what the step s does after p diagrams have been given, by its answer
 --   Accepted answer              it is not a refusal
 --   SecondList n steps end       the theorem
--- and from elsewhere: BeginPromise, finished n (run_steps, Promises); listing, count, Sorted, diagramAt, wordAt (listing); Written, Untouched (words,
+--   BegunAtHolds                 a run that begins at a position is one that steps could have left
+-- and from elsewhere: BeginPromise, BeginAtPromise, finished n (run_steps, Promises); listing, count, Sorted, diagramAt, wordAt (listing); Written, Untouched (words,
 -- Outputs); InPlace n p, the diagram at p is one of size n in its characteristic labelling with the p-th word (FirstList).
 use mathlib.Core.Path.{_≡_}
 use mathlib.Core.Logic.{_↔_}
@@ -34,7 +35,7 @@ use Rattle.run_answers.specs.declared.Run.{Run}
 use Rattle.run_answers.specs.declared.Beginning.the-variants.{Begun}
 use Rattle.run_answers.specs.declared.Stepping.{Stepping}
 use Rattle.run_answers.specs.declared.Stepping.the-variants.{Length, End, Refused}
-use Rattle.run_steps.specs.Promises.{finished, BeginPromise, StepPromise}
+use Rattle.run_steps.specs.Promises.{finished, BeginPromise, BeginAtPromise, StepPromise}
 use Rattle.theorems.specs.FirstList.{InPlace}
 
 pub record Step : Type 0 where
@@ -136,3 +137,8 @@ pub record SecondList (n : ℕ) (steps : List Step) (end : Run) : Type 0 where
 -- The second list of demand 3: for every size, every run that an accepted beginning left, and every list of steps from it.
 abbrev pub SecondListHolds : Type 0
 SecondListHolds = (n : ℕ) (run : Run) → BeginPromise n run Begun → (steps : List Step) (end : Run) → History run steps end → SecondList n steps end
+
+-- A run that begins at a position is one that steps could have left, so that the second list goes on from there: p diagrams have been given.
+abbrev pub BegunAtHolds : Type 0
+BegunAtHolds = (n p : ℕ) (run start : Run) → BeginAtPromise n p run Begun → BeginPromise n start Begun
+    → (steps : List Step) × History start steps run × (written steps ≡ p)

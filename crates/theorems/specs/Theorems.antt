@@ -2,6 +2,7 @@
 use Rattle.theorems.specs.Demand2.{Demand2}
 use Rattle.theorems.specs.Demand3.{Demand3}
 use Rattle.theorems.specs.Corollaries.{CorollariesHold}
+use Rattle.theorems.specs.SecondList.{BegunAtHolds}
 use Rattle.theorems.specs.Blocks.{BlocksAreSteps, MarkedBlocksAreSteps, WalkAgreesHolds}
 use Rattle.theorems.specs.BookNumbers.{BookNumbers}
 use Rattle.theorems.specs.Determined.{Determined}
@@ -14,6 +15,8 @@ pub record Theorems : Type 0 where
   pub demand-3 : Demand3
   -- what users look for in the first list: tickets that have ended, releases, the report
   pub corollaries : CorollariesHold
+  -- a run that begins at a position is one that steps could have left
+  pub begun-at : BegunAtHolds
   -- a listing in blocks is a history of steps, without and with keep marks
   pub blocks : BlocksAreSteps
   pub marked-blocks : MarkedBlocksAreSteps

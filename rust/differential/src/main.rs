@@ -34,7 +34,7 @@ const PIECE: u64 = 5_000;
 type Comparison = fn(&mut Random, &mut Tally) -> Compared;
 
 /// Each comparison with the operations it compares.
-const COMPARISONS: [(Comparison, &[&str]); 21] = [
+const COMPARISONS: [(Comparison, &[&str]); 22] = [
     (given::kept, &["kept"]),
     (blocks::list_marked, &["list marked"]),
     (blocks::list, &["list"]),
@@ -53,6 +53,7 @@ const COMPARISONS: [(Comparison, &[&str]); 21] = [
     (listed::position, &["position"]),
     (listed::plain_walk, &["plain walk"]),
     (runs::begin, &["begin"]),
+    (runs::begin_at, &["begin at"]),
     (runs::steps, &["step"]),
     (books::open, &["open"]),
     (books::life, &["claim", "take", "commit", "release", "report"]),

@@ -21,6 +21,24 @@ pub fn begin(random: &mut Random, tally: &mut Tally) -> Compared {
     tally.compare("begin", outcome(&reference, accepted), &library, &reference, &size)
 }
 
+/// A beginning at a position, often near the ends of the listing, and a few steps of an accepted one.
+pub fn begin_at(random: &mut Random, tally: &mut Tally) -> Compared {
+    let size = if random.percent(85) { random.between(1, 50) } else { random.near(&[0, 1, 50]) };
+    let count = reference::count(size).unwrap_or(1000);
+    let position = if random.percent(50) { random.between(0, count) } else { random.near(&[0, 1, count]) };
+    let library = kaldvemir::Run::begin_at(size, position).map_err(Refusal::number).map(|run| reference_run(&run));
+    let reference = Run::begin_at(size, position);
+    let kind = outcome(&reference, |run| if run.stage == 0 { "fresh" } else { "at a diagram" });
+    tally.compare("begin at", kind, &library, &reference, &(size, position))?;
+    if let Ok(mut run) = reference {
+        for _ in 0..random.below(3) {
+            let lists = Lists::any(random, run.size.into());
+            step(&mut run, &lists, tally)?;
+        }
+    }
+    Ok(())
+}
+
 /// One step of both from the same run: compares the answers, the runs and the lists after it, and returns what an accepted step answered.
 fn step(run: &mut Run, before: &Lists, tally: &mut Tally) -> Result<Option<Option<Written>>, Box<Difference>> {
     let input = (run.clone(), before);

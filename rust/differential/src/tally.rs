@@ -21,7 +21,7 @@ pub struct Difference {
 pub type Compared = Result<(), Box<Difference>>;
 
 /// Every operation with the kinds of its accepted answers and its refusals: each is to be met.
-pub const OPERATIONS: [(&str, &[&str], &[u16]); 25] = [
+pub const OPERATIONS: [(&str, &[&str], &[u16]); 26] = [
     ("check", &["accepted"], GIVEN),
     ("all reached", &["yes", "no"], &[]),
     ("relabel", &["accepted"], &[1, 2, 3, 4, 5, 6, 7, 8, 9]),
@@ -38,6 +38,7 @@ pub const OPERATIONS: [(&str, &[&str], &[u16]); 25] = [
     ("position", &["accepted"], &[1, 2, 3, 4, 5, 6, 7, 8, 31]),
     ("plain walk", &["accepted"], &[35, 9]),
     ("begin", &["accepted"], &[31]),
+    ("begin at", &["fresh", "at a diagram"], &[31, 32]),
     ("step", &["diagram", "end"], &[34, 9]),
     ("list", &["all", "fewer", "no rows", "finished"], &[34, 9]),
     ("list marked", &["all", "fewer", "no rows", "finished"], &[34, 9]),

@@ -38,6 +38,7 @@ extern "C" {
     fn kaldvemir_position(s0: *const u16, s0_len: usize, s1: *const u16, s1_len: usize, root: u64, position: *mut u64) -> u16;
     fn kaldvemir_plain_walk(size: u64, words: *mut u16, words_len: usize, count: *mut u64) -> u16;
     fn kaldvemir_begin(size: u64, run: *mut Run) -> u16;
+    fn kaldvemir_begin_at(size: u64, position: u64, run: *mut Run) -> u16;
     fn kaldvemir_step(
         run: *mut Run, s0: *mut u16, s0_len: usize, s1: *mut u16, s1_len: usize, word: *mut u16, word_len: usize, length: *mut u64,
     ) -> u16;
@@ -165,6 +166,11 @@ pub(crate) fn plain_walk(size: u64, words: &mut [u16], count: &mut u64) -> u16 {
 #[inline]
 pub(crate) fn begin(size: u64, run: &mut Run) -> u16 {
     unsafe { kaldvemir_begin(size, run) }
+}
+
+#[inline]
+pub(crate) fn begin_at(size: u64, position: u64, run: &mut Run) -> u16 {
+    unsafe { kaldvemir_begin_at(size, position, run) }
 }
 
 #[inline]

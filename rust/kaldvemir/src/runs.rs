@@ -21,12 +21,14 @@ impl Run {
     /// Beginning: a fresh run. Refuses 31.
     #[inline]
     pub fn begin(size: u64) -> Result<Run, Refusal> {
-        let unwritten = UNWRITTEN as u16;
-        let before = Run { size: unwritten, stage: unwritten, length: unwritten, items: [unwritten; 51] };
-        let mut run = before.clone();
-        let answer = answered(raw::begin(size, &mut run));
-        left(answer, run == before)?;
-        Ok(run)
+        begun(|run| raw::begin(size, run))
+    }
+
+    /// Beginning at a position: the run that has given so many diagrams, without walking to it; its next step gives the diagram at the position
+    /// after. At position 0 it is fresh. Refuses 31; 32 where the position is above the count.
+    #[inline]
+    pub fn begin_at(size: u64, position: u64) -> Result<Run, Refusal> {
+        begun(|run| raw::begin_at(size, position, run))
     }
 
     /// Step: writes the next diagram with its word and returns the word's length, or `None` at the end. Refuses 34; a finished run then answers
@@ -53,4 +55,15 @@ impl Run {
     ) -> Result<u64, Refusal> {
         given(|given| raw::list_marked(self, rows, [s0, s1, words, lengths], marks, given))
     }
+}
+
+/// The run that a beginning writes; a refused one leaves it.
+#[inline]
+fn begun(begin: impl FnOnce(&mut Run) -> u16) -> Result<Run, Refusal> {
+    let unwritten = UNWRITTEN as u16;
+    let before = Run { size: unwritten, stage: unwritten, length: unwritten, items: [unwritten; 51] };
+    let mut run = before.clone();
+    let answer = answered(begin(&mut run));
+    left(answer, run == before)?;
+    Ok(run)
 }

@@ -53,6 +53,21 @@ fn a_whole_run() {
 }
 
 #[test]
+fn a_run_from_each_position() {
+    let mut run = Run::begin(4).unwrap();
+    let (mut s0, mut s1, mut word) = ([0; 4], [0; 4], [0; 5]);
+    for position in 0..=8 {
+        assert_eq!(Run::begin_at(4, position).as_ref(), Ok(&run));
+        run.step(&mut s0, &mut s1, &mut word).unwrap();
+    }
+    assert_eq!(run.stage, 2);
+    assert_eq!((Run::begin_at(4, 9), Run::begin_at(51, 0)), (Err(Refusal::PositionOutside), Err(Refusal::ListedSizeOutside)));
+    let mut late = Run::begin_at(4, 7).unwrap();
+    assert_eq!((late.step(&mut s0, &mut s1, &mut word), text(&word[..3])), (Ok(Some(3)), "TJ1B".to_string()));
+    assert_eq!(late.step(&mut s0, &mut s1, &mut word), Ok(None));
+}
+
+#[test]
 fn a_run_in_blocks() {
     let (mut plain, mut marked) = (Run::begin(4).unwrap(), Run::begin(4).unwrap());
     let (mut words_given, mut marks_given) = (vec![], vec![]);

@@ -24,6 +24,15 @@ impl Run {
         Ok(Run { size: size as u16, stage: 0, length: 0, items: [0; 51] })
     }
 
+    /// Beginning at a position: 31; 32.
+    pub fn begin_at(size: u64, position: u64) -> Result<Run, u16> {
+        match position {
+            _ if position > count(size)? => Err(32),
+            0 => Run::begin(size),
+            _ => Ok(Run::at(size as u16, position)),
+        }
+    }
+
     /// The run of a size, 1 to 50, at the diagram of a position, 1 to the count.
     pub fn at(size: u16, position: u64) -> Run {
         let mut run = Run { size, stage: 0, length: 0, items: [0; 51] };

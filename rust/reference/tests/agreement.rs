@@ -61,6 +61,19 @@ fn a_run_gives_the_listing_and_ends() {
 }
 
 #[test]
+fn a_run_begins_where_steps_lead() {
+    for n in 1..=10 {
+        let (mut run, count) = (Run::begin(n).unwrap(), count(n).unwrap());
+        for position in 0..=count {
+            assert_eq!(Run::begin_at(n, position).as_ref(), Ok(&run));
+            run.step(ROOMY).unwrap();
+        }
+        assert_eq!((Run::begin_at(n, count + 1), Run::begin_at(n, u64::MAX)), (Err(32), Err(32)));
+    }
+    assert_eq!((Run::begin_at(0, 0), Run::begin_at(51, u64::MAX)), (Err(31), Err(31)));
+}
+
+#[test]
 fn blocks_give_the_listing_and_end() {
     for n in 1..=8_usize {
         let words = all_words(n);

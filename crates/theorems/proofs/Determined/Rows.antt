@@ -17,7 +17,7 @@ use Rattle.run_answers.specs.declared.Beginning.{Beginning}
 use Rattle.run_answers.specs.declared.Beginning.the-variants as beginning
 use Rattle.run_answers.specs.declared.Stepping.{Stepping}
 use Rattle.run_answers.specs.declared.Stepping.the-variants as stepping
-use Rattle.run_steps.specs.Promises.{runAfter, RunAt, RunFinished, BeginPromise, StepPromise}
+use Rattle.run_steps.specs.Promises.{runAfter, RunAt, RunFinished, BeginPromise, BeginAtPromise, StepPromise}
 use Rattle.run_blocks_answers.specs.declared.Listing.{Listing}
 use Rattle.run_blocks_answers.specs.declared.Listing.the-variants.{Rows, Refused}
 use Rattle.run_blocks.specs.Rows.{MarkOf, Marks, MarksWritten}
@@ -33,6 +33,20 @@ begin-once n next other beginning.Begun beginning.Begun x y = (refl, x .1 ∙ sy
 begin-once n next other beginning.Begun (beginning.Refused k) x y = absurd (y .1 (x .0))
 begin-once n next other (beginning.Refused k) beginning.Begun x y = absurd (x .1 (y .0))
 begin-once n next other (beginning.Refused j) (beginning.Refused k) x y = (ap beginning.Refused (x .0 ∙ sym (y .0)), x .2 ∙ sym (y .2))
+
+-- a run that stands at p is refused neither for its size nor for its position
+begun-not-refused : (n p : ℕ) (next other : Run) (k : ℕ) → RunAt n p next → BeginAtPromise n p other (beginning.Refused k) → ⊥
+begun-not-refused n p next other k S (inl x, e) = x .1 (S .sized)
+begun-not-refused n p next other k S (inr x, e) = let l = S .within in let c = x .2 in omega arith
+
+pub begin-at-once : (n p : ℕ) (next other : Run) (r q : Beginning) → BeginAtPromise n p next r → BeginAtPromise n p other q → (r ≡ q) × (next ≡ other)
+begin-at-once n p next other beginning.Begun beginning.Begun x y = (refl, x .is ∙ sym (y .is))
+begin-at-once n p next other beginning.Begun (beginning.Refused k) x y = absurd (begun-not-refused n p next other k x y)
+begin-at-once n p next other (beginning.Refused k) beginning.Begun x y = absurd (begun-not-refused n p other next k y x)
+begin-at-once n p next other (beginning.Refused j) (beginning.Refused k) (inl x, e) (inl y, f) = (ap beginning.Refused (x .0 ∙ sym (y .0)), e ∙ sym f)
+begin-at-once n p next other (beginning.Refused j) (beginning.Refused k) (inl x, e) (inr y, f) = absurd (x .1 (y .1))
+begin-at-once n p next other (beginning.Refused j) (beginning.Refused k) (inr x, e) (inl y, f) = absurd (y .1 (x .1))
+begin-at-once n p next other (beginning.Refused j) (beginning.Refused k) (inr x, e) (inr y, f) = (ap beginning.Refused (x .0 ∙ sym (y .0)), e ∙ sym f)
 
 -- ---- rows of a run, whatever is said of the lists: Wrote n p k after a listing of k rows behind position p, Left after one of a finished run or
 -- a refusal

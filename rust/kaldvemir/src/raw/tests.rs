@@ -110,6 +110,7 @@ fn refused_runs() {
     let before = Run { size: MARK, stage: MARK, length: MARK, items: [MARK; 51] };
     let (mut run, mut lists, mut out) = (before.clone(), [[MARK; 60]; 3], WIDE);
     assert_eq!((begin(0, &mut run), begin(51, &mut run)), (31, 31));
+    assert_eq!((begin_at(0, 0, &mut run), begin_at(51, u64::MAX, &mut run), begin_at(3, 5, &mut run)), (31, 31, 32));
     let [s0, s1, word] = &mut lists;
     assert_eq!(step(&mut run, s0, s1, word, &mut out), 34);
     let (mut lengths, mut marks) = ([MARK; 1], [7; 1]);
