@@ -13,6 +13,8 @@ use console_replies::Reply;
 use console_replies::error;
 use console_state::on_state;
 use text_printing::put_text;
+ghost use Rattle.text_printing.specs.Printing.{output};
+ghost use Rattle.console_answers.specs.Answers.{ReplyPut, AnswerPut};
 
 // The most letters of a word: an item has at most six.
 const MAX_LETTERS: usize = 6 * MAX_ENTRIES;
@@ -42,25 +44,31 @@ fn on_command(
     on_diagrams(letter, entries, values, s0, s1, words, bytes)
 }
 
-// The same, with the output lists cut to the rooms.
-fn in_rooms(
+// The answer to the arguments of a line by its row, in output lists that are as long as the rooms.
+fn respond<'a>(
+    table: &'a [u8],
+    row: &'a [u8],
     arguments: Arguments,
     entries: &[u16],
     run: &mut [u16; 54],
     book: &mut [u64; 100],
-    s0: &mut [u16],
-    s1: &mut [u16],
-    words: &mut [u16],
-    lengths: &mut [u16],
-    bytes: &mut [u8],
-) -> Reply {
+    out: &mut [u8],
+    place: usize,
+) -> usize
+    ensures { λ r. ⌜ ReplyPut (output (now (out .entry)) place) (output (now (out .exit)) r) ⌝ }
+{
+    let mut s0 = [0u16; MAX_ENTRIES];
+    let mut s1 = [0u16; MAX_ENTRIES];
+    let mut words = [0u16; MAX_ENTRIES];
+    let mut lengths = [0u16; MAX_ENTRIES];
+    let mut bytes = [0u8; MAX_LETTERS];
     let values = arguments.values;
-    let r0 = room(values, 0, s0.len());
-    let r1 = room(values, 1, s1.len());
-    let rw = room(values, 2, words.len());
-    let rl = room(values, 3, lengths.len());
-    let rb = room(values, 4, bytes.len());
-    on_command(
+    let r0 = room(values, 0, MAX_ENTRIES);
+    let r1 = room(values, 1, MAX_ENTRIES);
+    let rw = room(values, 2, MAX_ENTRIES);
+    let rl = room(values, 3, MAX_ENTRIES);
+    let rb = room(values, 4, MAX_LETTERS);
+    let reply = on_command(
         arguments.letter,
         entries,
         values,
@@ -71,35 +79,6 @@ fn in_rooms(
         &mut words[0..rw],
         &mut lengths[0..rl],
         &mut bytes[0..rb],
-    )
-}
-
-// The answer to the arguments of a line by its row.
-fn respond<'a>(
-    table: &'a [u8],
-    row: &'a [u8],
-    arguments: Arguments,
-    entries: &[u16],
-    run: &mut [u16; 54],
-    book: &mut [u64; 100],
-    out: &mut [u8],
-    place: usize,
-) -> usize {
-    let mut s0 = [0u16; MAX_ENTRIES];
-    let mut s1 = [0u16; MAX_ENTRIES];
-    let mut words = [0u16; MAX_ENTRIES];
-    let mut lengths = [0u16; MAX_ENTRIES];
-    let mut bytes = [0u8; MAX_LETTERS];
-    let reply = in_rooms(
-        arguments,
-        entries,
-        run,
-        book,
-        &mut s0,
-        &mut s1,
-        &mut words,
-        &mut lengths,
-        &mut bytes,
     );
     let text = text_of(table, row, reply.choice);
     put_answer(out, place, text, reply, &s0, &s1, &words, &lengths, &bytes)
@@ -112,7 +91,9 @@ fn by_table(
     book: &mut [u64; 100],
     out: &mut [u8],
     place: usize,
-) -> usize {
+) -> usize
+    ensures { λ r. ⌜ ReplyPut (output (now (out .entry)) place) (output (now (out .exit)) r) ⌝ }
+{
     let row = row_of(table, line);
     let mut entries = [0u16; ALL_ENTRIES];
     let arguments = read_arguments(row, line, &mut entries);
@@ -128,9 +109,13 @@ pub fn on_line(
     book: &mut [u64; 100],
     out: &mut [u8],
     place: usize,
-) -> usize {
-    if 0 < line.len() && line[0] == b'#' {
-        return put_text(out, place, line);
+) -> usize
+    ensures { λ r. ⌜ AnswerPut (now (line .entry)) (output (now (out .entry)) place) (output (now (out .exit)) r) ⌝ }
+{
+    if 0 < line.len() {
+        if line[0] == b'#' {
+            return put_text(out, place, line);
+        }
     }
     by_table(
         b"#|refused A|error|;\

@@ -41,27 +41,15 @@ mod commands;
 use commands::on_line;
 use console_lines::next_line;
 use console_lines::no_lines;
-use libc::STDOUT_FILENO;
+use console_lines::output::written;
 use text_printing::put_byte;
+ghost use Rattle.text_printing.specs.Printing.{output};
+ghost use Rattle.console_answers.specs.Answers.{AnswerLinePut};
 
 // More than the longest line, so that a line that is still incomplete leaves room to read on.
 const INPUT: usize = 131072;
-// Answers are written out once they are so many bytes.
-const ENOUGH: usize = 32768;
-// More than these and the longest answer, which is that of a line that is its own.
+// More than ENOUGH bytes (crate console_lines) and the longest answer, which is that of a line that is its own.
 const OUTPUT: usize = 131072;
-
-// Writes the answers so far, where they are many or no line is at hand, and returns the place for the next one.
-fn written(out: &[u8], place: usize, now: bool) -> usize {
-    if place <= ENOUGH && !now {
-        return place;
-    }
-    if out.len() < place {
-        return 0;
-    }
-    io::write_all(STDOUT_FILENO, &out[0..place]);
-    0
-}
 
 // The answer to a line, and a newline; nothing where there is no line.
 fn answer(
@@ -71,7 +59,9 @@ fn answer(
     book: &mut [u64; 100],
     out: &mut [u8],
     place: usize,
-) -> usize {
+) -> usize
+    ensures { λ r. ⌜ AnswerLinePut none (now (line .entry)) (output (now (out .entry)) place) (output (now (out .exit)) r) ⌝ }
+{
     if none {
         return place;
     }

@@ -9,15 +9,19 @@
 --   numberPieces r b      what b stands for where it is no output list: a long list, a number, the signed number, or b itself
 --   fieldPieces r ls b    what b stands for
 --   answerPieces r ls s   what the bytes of s stand for, one after another
+--   ReplyPut o o′         the answer of some reply put into o gives o′
+--   AnswerPut l o o′      so does the answer to the line l: a line that begins with `#` as it stands, any other the answer of a reply
+--   AnswerLinePut n l o o′   that and a newline; nothing where n says that there is no line
 use mathlib.Core.Path.{_≡_, refl}
-use mathlib.Core.Bool.{Bool, false, cond}
+use mathlib.Core.Logic.{_⊎_}
+use mathlib.Core.Bool.{Bool, true, false, cond}
 use mathlib.Core.List.{List, [], _∷_, _++_}
-use Prim.Native.Nat.{ℕ, _+_, _-_, _*_}
+use Prim.Native.Nat.{ℕ, _+_, _-_, _*_, _<_}
 use lib.Dec.{eqb, leb, ltb}
 use lib.IntN.{negsuc}
-use lib.ListN.{getD, take, drop}
+use lib.ListN.{length, getD, take, drop}
 use Rattle.words.specs.Letters.{decimal}
-use Rattle.text_printing.specs.Printing.{signedPieces, entryPieces, listPieces}
+use Rattle.text_printing.specs.Printing.{Output, put, putAll, signedPieces, entryPieces, listPieces}
 use Rattle.console_replies.specs.declared.Reply.{Reply}
 
 pub record Lists : Type 0 where
@@ -55,6 +59,23 @@ fieldPieces r ls b =
 unfoldable pub answerPieces : Reply → Lists → List ℕ → List (List ℕ)
 answerPieces r ls [] = []
 answerPieces r ls (b ∷ s) = fieldPieces r ls b ++ answerPieces r ls s
+
+pub record ReplyPut (o o′ : Output) : Type 0 where
+  pub reply : Reply
+  pub outputs : Lists
+  pub text : List ℕ
+  pub is : o′ ≡ putAll (answerPieces reply outputs text) o
+
+-- the line begins with `#`
+abbrev pub OwnAnswer : List ℕ → Type 0
+OwnAnswer line = (0 < length line) × (getD line 0 0 ≡ 35)
+
+abbrev pub AnswerPut : List ℕ → Output → Output → Type 0
+AnswerPut line o o′ = (OwnAnswer line × (o′ ≡ put line o)) ⊎ ((¬ OwnAnswer line) × ReplyPut o o′)
+
+abbrev pub AnswerLinePut : Bool → List ℕ → Output → Output → Type 0
+AnswerLinePut true line o o′ = o′ ≡ o
+AnswerLinePut false line o o′ = (answered : Output) × AnswerPut line o answered × (o′ ≡ put (10 ∷ []) answered)
 
 -- `A 0 +` and `end`, with the number 7, the signed number -2 and two entries of the first list
 abbrev example : Reply

@@ -1,5 +1,7 @@
 // The lines of standard input, one after another, in a buffer of more than LONGEST bytes. A line that is longer than LONGEST is given as an empty
-// one, and what follows of it is passed over.
+// one, and what follows of it is passed over. Module output writes the answers out.
+pub mod output;
+
 use bytes::scan::find;
 use libc::STDIN_FILENO;
 ghost use Prim.Native.Nat.{_≤_, _<_};

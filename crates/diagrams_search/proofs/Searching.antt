@@ -133,7 +133,7 @@ joined-both s0 s1 k e l p q = q ∙ rw (at-place s1 k e, p, at-place s0 k e)
 -- the edges of l are reached, edge 1 is among them, and so are both neighbours of the first edges, done of them
 pub record Found (f g : ℕ → ℕ) (l : List ℕ) (done : ℕ) : Type 0 where
   pub first : Has 1 l
-  pub sound : (x : ℕ) → Has x l → Reached f g 1 x
+  pub all-reached : (x : ℕ) → Has x l → Reached f g 1 x
   pub visited : done ≤ length l
   pub closed : (x : ℕ) → Has x (take done l) → Has (f x) l × Has (g x) l
 
@@ -147,8 +147,8 @@ joined-has x l = go (has? x l)
     go (inl h) = rw (joined-there x l h) h
     go (inr m) = rw (joined-new x l m) (snoc-has x l x (inr refl))
 
-joined-sound : (P : ℕ → Type 0) (x : ℕ) (l : List ℕ) → P x → ((y : ℕ) → Has y l → P y) → (y : ℕ) → Has y (added x l) → P y
-joined-sound P x l p k y = cond-all (λ m. Has y m → P y) (has x l) l (l ++ (x ∷ [])) (λ e. k y) (λ e h. go (has-snoc y l x h))
+joined-all : (P : ℕ → Type 0) (x : ℕ) (l : List ℕ) → P x → ((y : ℕ) → Has y l → P y) → (y : ℕ) → Has y (added x l) → P y
+joined-all P x l p k y = cond-all (λ m. Has y m → P y) (has x l) l (l ++ (x ∷ [])) (λ e. k y) (λ e h. go (has-snoc y l x h))
   where
     go : Has y l ⊎ (y ≡ x) → P y
     go (inl h) = k y h
@@ -162,7 +162,7 @@ joined-start n x l h = cond-all (λ m. take n m ≡ take n l) (has x l) l (l ++ 
 
 module _ (f g : ℕ → ℕ) where
   pub found-first : Found f g (1 ∷ []) 0
-  found-first = record { first = inl refl; sound = only; visited = omega arith; closed = λ x h. absurd h }
+  found-first = record { first = inl refl; all-reached = only; visited = omega arith; closed = λ x h. absurd h }
     where
       only : (x : ℕ) → Has x (1 ∷ []) → Reached f g 1 x
       only x (inl e) = rw e here
@@ -172,13 +172,13 @@ module _ (f g : ℕ → ℕ) where
     found-more : (k : ℕ) → done < length l → k ≡ getD l done 0 → Found f g (added (g k) (added (f k) l)) (done + 1)
     found-more k h e = record {
       first = keeps 1 (F .first);
-      sound = joined-sound (Reached f g 1) (g k) (added (f k) l) (white there) (joined-sound (Reached f g 1) (f k) l (black there) (F .sound));
+      all-reached = joined-all (Reached f g 1) (g k) (added (f k) l) (white there) (joined-all (Reached f g 1) (f k) l (black there) (F .all-reached));
       visited = let i = joined-longer (f k) l in let j = joined-longer (g k) (added (f k) l) in omega arith;
       closed = rw (before, add-one, take-suc l done 0 h, ← e) (λ x m. near x (has-snoc x (take done l) k m));
     }
       where
         there : Reached f g 1 k
-        there = F .sound k (rw e (has-getD l done h))
+        there = F .all-reached k (rw e (has-getD l done h))
 
         keeps : (y : ℕ) → Has y l → Has y (added (g k) (added (f k) l))
         keeps y m = joined-keeps (g k) y (added (f k) l) (joined-keeps (f k) y l m)
@@ -217,7 +217,7 @@ module _ {s0 s1 marks list : List ℕ} {count done : ℕ} (m : Mapped s0 s1) (s 
     listed-at = getD-take count list done 0 h
 
     pub listed-edge : OneTo (length s0) (getD list done 0)
-    listed-edge = reached-edge (m .maps) (edge-one (m .maps)) (F .sound (getD list done 0) (rw listed-at at (has-getD (take count list) done (rw listed-length h))))
+    listed-edge = reached-edge (m .maps) (edge-one (m .maps)) (F .all-reached (getD list done 0) (rw listed-at at (has-getD (take count list) done (rw listed-length h))))
 
     pub found-next : Found (at s0) (at s1) (added (at s1 (getD list done 0)) (added (at s0 (getD list done 0)) (take count list))) (done + 1)
     found-next = found-more (at s0) (at s1) F (getD list done 0) (rw listed-length h) (sym listed-at)
@@ -234,7 +234,7 @@ module _ {s0 s1 marks list : List ℕ} {count done : ℕ} (m : Mapped s0 s1) (s 
 
       to : AllOne (take n marks) → Connected s0 s1
       to a zero e = absurd (omega arith)
-      to a (suc i) e = F .sound (suc i) (marked-there s (suc i) (sym (getD-take n marks i 0 (e .1)) ∙ a i (rw long (e .1))))
+      to a (suc i) e = F .all-reached (suc i) (marked-there s (suc i) (sym (getD-take n marks i 0 (e .1)) ∙ a i (rw long (e .1))))
 
       from : Connected s0 s1 → AllOne (take n marks)
       from c i l =

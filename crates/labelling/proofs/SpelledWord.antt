@@ -13,7 +13,7 @@ use Rattle.lists.proofs.Lists.{find-getD, length-3, length-1}
 use Rattle.lists.proofs.Ranges.{has-down, down-has}
 use Rattle.lists.proofs.Tests.{ltb-true}
 use Rattle.words.specs.Word.{Pair, spells, spell}
-use Rattle.words.proofs.Growing.{State, Keeps, keeps, short, state-W, state-F, state-B, state-J, k-in, p-in, F-k, F-c, F-sc, B-k, B-c, W-k, Jd-k, none≢some, picked, state-U, state-T, p-k}
+use Rattle.words.proofs.Growing.{State, Keeps, keeps, short, state-W, state-F, state-B, state-J, k-in, p-in, F-k, F-c, F-sc, B-k, B-c, W-k, Jd-k, none≢some, cond-some, state-U, state-T, p-k}
 use Rattle.labelling.specs.Labelling.{event, events, label}
 use Rattle.labelling.proofs.Moves.{move-W, move-J, move-B, move-F, label-U, label-T}
 
@@ -70,7 +70,7 @@ reads (suc (suc zero) ∷ w) (k ∷ r) s0 s1 D (suc m) S e h =
     let T = state-B k r s0 s1 S in
     run-step _ _ _ _ _ m _ _ _ _ _ (B-move k r s0 s1 S D (keeps w _ _ _ D T e)) (rw length-1 at (reads w _ _ _ D m T e (le-of-suc-le-suc h)))
 reads (suc (suc (suc d)) ∷ w) (k ∷ r) s0 s1 D (suc m) S e h =
-    let q = picked (ltb d (length r)) (spells w (removeAt d r) s0 (put (put s1 k (getD r d 0)) (getD r d 0) k)) D e in
+    let q = cond-some (ltb d (length r)) (spells w (removeAt d r) s0 (put (put s1 k (getD r d 0)) (getD r d 0) k)) D e in
     let l = ltb-true d (length r) (q .0) in
     let T = state-J k r s0 s1 S d l in
     run-step _ _ _ _ _ m _ _ _ _ _ (J-move k r s0 s1 S D d l (keeps w (removeAt d r) s0 _ D T (q .1))) (reads w (removeAt d r) s0 _ D m T (q .1) (le-of-suc-le-suc h))

@@ -21,8 +21,8 @@ use Rattle.labelling_code.specs.Scratch.{LabelsHeld, SomeLabelsHeld, Und
 use Rattle.labelling_events.specs.declared.EventItem.{EventItem}
 
 -- the items w before what is to come
-abbrev pub after : List ℕ → Labelled → Labelled
-after w q = record { marked = q .marked; word = w ++ q .word }
+abbrev pub prefixWord : List ℕ → Labelled → Labelled
+prefixWord w q = record { marked = q .marked; word = w ++ q .word }
 
 -- the items w are written; the labelling stands at `marked` and `stack`, with `left` moves left
 pub record Sofar (s0 s1 : List ℕ) (root : ℕ) (la od nx pv : List ℕ) (c : ℕ) (w : List ℕ) : Type 0 where
@@ -32,7 +32,7 @@ pub record Sofar (s0 s1 : List ℕ) (root : ℕ) (la od nx pv : List ℕ) (c : �
   pub underway : Underway s0 s1 la od nx pv c marked stack
   pub moves : length w + left ≡ suc (length s0)
   pub enough : length stack + length s0 ≤ left + length marked
-  pub whole : after w (events (at s0) (at s1) left marked stack) ≡ label (length s0) (at s0) (at s1) root
+  pub whole : prefixWord w (events (at s0) (at s1) left marked stack) ≡ label (length s0) (at s0) (at s1) root
 
 -- ---- the first event
 

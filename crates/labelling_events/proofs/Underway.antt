@@ -43,8 +43,8 @@ module _ (s0 s1 la od nx pv : List ℕ) (c : ℕ) (o : List ℕ) (k : ℕ) (r : 
   pub partner-small : p < 1025
   partner-small = let i = partner-edge in let j = u .accepted .size in omega arith
 
-  after : LabellingInvariant (length s0) (at s0) (at s1) (event (at s0) (at s1) o k r .marked) (event (at s0) (at s1) o k r .stack)
-  after = next (length s0) (at s0) (at s1) maps o k r (u .along)
+  invariant-after-event : LabellingInvariant (length s0) (at s0) (at s1) (event (at s0) (at s1) o k r .marked) (event (at s0) (at s1) o k r .stack)
+  invariant-after-event = next (length s0) (at s0) (at s1) maps o k r (u .along)
 
   -- a partner with a label is pending
   pub partner-pending : p ≢ k → getD la p 0 ≢ 0 → Has p r
@@ -61,7 +61,7 @@ module _ (s0 s1 la od nx pv : List ℕ) (c : ℕ) (o : List ℕ) (k : ℕ) (r : 
 
   did : (v : Event) (la′ od′ nx′ pv′ : List ℕ) (x c′ : ℕ) → event (at s0) (at s1) o k r ≡ v → x ≡ v .item → LabelsHeld la′ od′ c′ (v .marked) → Ring nx′ pv′ (v .stack)
       → EventDone s0 s1 la′ od′ nx′ pv′ (event (at s0) (at s1) o k r) (record { item = x; given = c′ })
-  did v la′ od′ nx′ pv′ x c′ e i h q = record { item-is = rw e i; leaves = record { accepted = u .accepted; along = after; holds = rw e h; ring = rw e q } }
+  did v la′ od′ nx′ pv′ x c′ e i h q = record { item-is = rw e i; leaves = record { accepted = u .accepted; along = invariant-after-event; holds = rw e h; ring = rw e q } }
 
   pub did-W : (nx′ pv′ : List ℕ) → p ≡ k → Ring nx′ pv′ r → EventDone s0 s1 la od nx′ pv′ (event (at s0) (at s1) o k r) (record { item = 0; given = c })
   did-W nx′ pv′ a q = did _ la od nx′ pv′ 0 c (move-W (at s0) (at s1) o k r p refl a) refl (u .holds) q
@@ -76,7 +76,7 @@ module _ (s0 s1 la od nx pv : List ℕ) (c : ℕ) (o : List ℕ) (k : ℕ) (r : 
 
   pub event-B-room : p ≢ k → getD la p 0 ≡ 0 → at s0 p ≡ p → c < 1024
   event-B-room a b e =
-      let i = size (length s0) (at s0) (at s1) maps _ _ (rw (event-B a b e) at after) in
+      let i = size (length s0) (at s0) (at s1) maps _ _ (rw (event-B a b e) at invariant-after-event) in
       let j = u .accepted .size in
       let l = u .holds .given-is in
       omega arith
@@ -91,7 +91,7 @@ module _ (s0 s1 la od nx pv : List ℕ) (c : ℕ) (o : List ℕ) (k : ℕ) (r : 
   fork a b e = move-F (at s0) (at s1) o k r p refl a (fresh b) e
 
   forked : p ≢ k → getD la p 0 ≡ 0 → at s0 p ≢ p → LabellingInvariant (length s0) (at s0) (at s1) (at s0 (at s0 p) ∷ at s0 p ∷ p ∷ o) (at s0 (at s0 p) ∷ at s0 p ∷ r)
-  forked a b e = rw (fork a b e) at after
+  forked a b e = rw (fork a b e) at invariant-after-event
 
   pub fork-room : p ≢ k → getD la p 0 ≡ 0 → at s0 p ≢ p → c + 3 ≤ 1024
   fork-room a b e =

@@ -26,16 +26,16 @@ ends-fit : (f : ℕ) → All (Fits zero f) (atEmptyStack f)
 ends-fit zero = (tt, tt)
 ends-fit (suc f) = tt
 
-pub sound : (m h f : ℕ) → All (Fits h f) (completions m h f)
+pub completions-fit : (m h f : ℕ) → All (Fits h f) (completions m h f)
 unfolding completions
-sound zero zero f = ends-fit f
-sound zero (suc h) f = tt
-sound (suc m) zero f = ends-fit f
-sound (suc m) (suc h) f =
-    all-append P (prefixEach 0 (completions m h f)) _ (all-each P 0 (completions m h f) (sound m h f))
-    (all-append P (prefixEach 1 (less3 f [] (λ g. completions m (suc (suc h)) g))) _ (all-each P 1 (less3 f [] (λ g. completions m (suc (suc h)) g)) (forked f (λ g. sound m (suc (suc h)) g)))
-    (all-append P (prefixEach 2 (less1 f [] (λ g. completions m h g))) _ (all-each P 2 (less1 f [] (λ g. completions m h g)) (budded f (λ g. sound m h g)))
-    (all-fan P 3 h (completions m (pre h) f) (jumped (sound m (pre h) f)))))
+completions-fit zero zero f = ends-fit f
+completions-fit zero (suc h) f = tt
+completions-fit (suc m) zero f = ends-fit f
+completions-fit (suc m) (suc h) f =
+    all-append P (prefixEach 0 (completions m h f)) _ (all-each P 0 (completions m h f) (completions-fit m h f))
+    (all-append P (prefixEach 1 (less3 f [] (λ g. completions m (suc (suc h)) g))) _ (all-each P 1 (less3 f [] (λ g. completions m (suc (suc h)) g)) (forked f (λ g. completions-fit m (suc (suc h)) g)))
+    (all-append P (prefixEach 2 (less1 f [] (λ g. completions m h g))) _ (all-each P 2 (less1 f [] (λ g. completions m h g)) (one-label f (λ g. completions-fit m h g)))
+    (all-fan P 3 h (completions m (pre h) f) (jumped (completions-fit m (pre h) f)))))
   where
     P : List ℕ → Type 0
     P = Fits (suc h) f
@@ -46,9 +46,9 @@ sound (suc m) (suc h) f =
     forked (suc (suc zero)) k = tt
     forked (suc (suc (suc g))) k = k g
 
-    budded : (g : ℕ) → ((e : ℕ) → All (Fits h e) (completions m h e)) → All (λ w. Fits (suc h) g (2 ∷ w)) (less1 g [] (λ e. completions m h e))
-    budded zero k = tt
-    budded (suc g) k = k g
+    one-label : (g : ℕ) → ((e : ℕ) → All (Fits h e) (completions m h e)) → All (λ w. Fits (suc h) g (2 ∷ w)) (less1 g [] (λ e. completions m h e))
+    one-label zero k = tt
+    one-label (suc g) k = k g
 
     jumped : All (Fits (pre h) f) (completions m (pre h) f) → (y : ℕ) → 3 ≤ y → y < 3 + h → All (λ w. Fits (suc h) f (y ∷ w)) (completions m (pre h) f)
     jumped a zero l u = absurd (omega arith)

@@ -8,21 +8,21 @@ use Rattle.lists.specs.Lists.{All}
 use Rattle.lists.proofs.Lists.{all-append}
 use Rattle.words.specs.Shape.{less1, less3, Word}
 use Rattle.listing.specs.Listing.{prefixEach, completions, listing, ways-in, ways, Sorted}
-use Rattle.listing.proofs.Completions.{all-each, sound, mem-each, complete, from-each, sorted-each, sorted-less1, sorted-less3, sorted, length-each, length-less1, length-less3, length-completions, less1-same, less3-same, ways-by}
+use Rattle.listing.proofs.Completions.{all-each, completions-fit, mem-each, complete, from-each, sorted-each, sorted-less1, sorted-less3, sorted, length-each, length-less1, length-less3, length-completions, less1-same, less3-same, ways-by}
 
 u-part : (n : ℕ) → All (λ w. Word n (0 ∷ w)) (less1 n [] (λ f. completions n 1 f))
 u-part zero = tt
-u-part (suc f) = sound (suc f) 1 f
+u-part (suc f) = completions-fit (suc f) 1 f
 
 t-part : (n : ℕ) → All (λ w. Word n (1 ∷ w)) (less3 n [] (λ f. completions n 3 f))
 t-part zero = tt
 t-part (suc zero) = tt
 t-part (suc (suc zero)) = tt
-t-part (suc (suc (suc f))) = sound (suc (suc (suc f))) 3 f
+t-part (suc (suc (suc f))) = completions-fit (suc (suc (suc f))) 3 f
 
-pub listing-sound : (n : ℕ) → All (Word n) (listing n)
+pub listing-words : (n : ℕ) → All (Word n) (listing n)
 unfolding listing
-listing-sound n = all-append (Word n) (prefixEach 0 (less1 n [] (λ f. completions n 1 f))) (prefixEach 1 (less3 n [] (λ f. completions n 3 f))) (all-each (Word n) 0 (less1 n [] (λ f. completions n 1 f)) (u-part n)) (all-each (Word n) 1 (less3 n [] (λ f. completions n 3 f)) (t-part n))
+listing-words n = all-append (Word n) (prefixEach 0 (less1 n [] (λ f. completions n 1 f))) (prefixEach 1 (less3 n [] (λ f. completions n 3 f))) (all-each (Word n) 0 (less1 n [] (λ f. completions n 1 f)) (u-part n)) (all-each (Word n) 1 (less3 n [] (λ f. completions n 3 f)) (t-part n))
 
 pub listing-complete : (n : ℕ) (w : List ℕ) → Word n w → List·Memᴰ w (listing n)
 unfolding listing

@@ -15,7 +15,7 @@ use Rattle.words.specs.Shape.{Word}
 use Rattle.words.proofs.Order.{before-irrefl, same-true, same-self}
 use Rattle.listing.specs.Listing.{listing, count, Sorted}
 use Rattle.listing.specs.Position.{wordAt, place, position}
-use Rattle.listing.proofs.Listing.{listing-sound, listing-complete, listing-sorted}
+use Rattle.listing.proofs.Listing.{listing-words, listing-complete, listing-sorted}
 
 -- ---- a sorted list of words
 
@@ -55,7 +55,7 @@ found w (v ∷ ws) m = go (same w v) refl (⊎-elim (λ e. inl e) (λ n. inr (fo
 pub at-word : (n p : ℕ) → OneTo (count n) p → Word n (wordAt n p)
 unfolding wordAt count
 at-word n zero e = absurd (omega arith)
-at-word n (suc i) e = all-at (Word n) (listing n) i [] (listing-sound n) (e .1)
+at-word n (suc i) e = all-at (Word n) (listing n) i [] (listing-words n) (e .1)
 
 pub at-once : (n p q : ℕ) → OneTo (count n) p → OneTo (count n) q → wordAt n p ≡ wordAt n q → p ≡ q
 unfolding wordAt count

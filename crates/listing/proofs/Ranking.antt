@@ -76,7 +76,7 @@ unranked-at (suc m) (suc h) f i l b =
     (length-each 0 t0 ∙ completions-ways m h f (omega arith)) (length-each 1 t1 ∙ waysF-ways m h f l) (length-each 2 t2 ∙ waysB-ways m h f l) (rw ways-parts at b)
     (λ c. getD-each 0 i t0 (rw (completions-ways m h f (omega arith)) c) ∙ ap (λ (w : List ℕ). 0 ∷ w) (unranked-at m h f i (omega arith) c))
     (λ c. getD-each 1 (i - ways h f) t1 (rw (waysF-ways m h f l) c) ∙ ap (λ (w : List ℕ). 1 ∷ w) (forked f l (i - ways h f) c (λ g. unranked-at m (suc (suc h)) g)))
-    (λ c. getD-each 2 (i - ways h f - waysF h f) t2 (rw (waysB-ways m h f l) c) ∙ ap (λ (w : List ℕ). 2 ∷ w) (budded f l (i - ways h f - waysF h f) c (λ g. unranked-at m h g)))
+    (λ c. getD-each 2 (i - ways h f - waysF h f) t2 (rw (waysB-ways m h f l) c) ∙ ap (λ (w : List ℕ). 2 ∷ w) (one-label f l (i - ways h f - waysF h f) c (λ g. unranked-at m h g)))
     (λ c. fan-at 3 h (ways (pre h) f) (i - ways h f - waysF h f - waysB h f) t3 (λ k. unrank m (pre h) f k) (completions-ways m (pre h) f (let z = pre-le h in omega arith)) (λ j d. unranked-at m (pre h) f j (let z = pre-le h in omega arith) d) c)
   where
     t0 : List (List ℕ)
@@ -98,10 +98,10 @@ unranked-at (suc m) (suc h) f i l b =
     forked (suc (suc zero)) l j c k = refl
     forked (suc (suc (suc f))) l j c k = k f j (omega arith) (unfold waysF in c)
 
-    budded : (f : ℕ) → suc h + f ≤ suc m → (j : ℕ) → j < waysB h f → ((g j : ℕ) → h + g ≤ m → j < ways h g → getD (completions m h g) j [] ≡ unrank m h g j)
+    one-label : (f : ℕ) → suc h + f ≤ suc m → (j : ℕ) → j < waysB h f → ((g j : ℕ) → h + g ≤ m → j < ways h g → getD (completions m h g) j [] ≡ unrank m h g j)
         → getD (less1 f [] (λ g. completions m h g)) j [] ≡ less1 f [] (λ g. unrank m h g j)
-    budded zero l j c k = refl
-    budded (suc f) l j c k = k f j (omega arith) (unfold waysB in c)
+    one-label zero l j c k = refl
+    one-label (suc f) l j c k = k f j (omega arith) (unfold waysB in c)
 
 -- ---- the place of a word
 

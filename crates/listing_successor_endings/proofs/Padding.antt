@@ -32,8 +32,8 @@ padded-over b items l e = e ∙ rw (le-true (length b) 51 l, drop-zeros 51 (leng
 pub padded-both : (p v items : List ℕ) (x length′ : ℕ) → (items ≡ paddedWord ((p ++ (x ∷ [])) ++ v)) × (length′ ≡ length ((p ++ (x ∷ [])) ++ v)) → (items ≡ paddedWord (p ++ (x ∷ v))) × (length′ ≡ length (p ++ (x ∷ v)))
 padded-both p v items x length′ r = let e = append-assoc p (x ∷ []) v in (r .0 ∙ ap paddedWord e, r .1 ∙ ap length e)
 
-pub sharing-by : (k : ℕ) (w items : List ℕ) (length′ : ℕ) → (items ≡ paddedWord w) × (length′ ≡ length w) → _≡_ {A = Next} record { shared = k; length = length′; items = items } (sharedWord k w)
-sharing-by k w items length′ r = rw (r .0, r .1)
+pub shared-word-is : (k : ℕ) (w items : List ℕ) (length′ : ℕ) → (items ≡ paddedWord w) × (length′ ≡ length w) → _≡_ {A = Next} record { shared = k; length = length′; items = items } (sharedWord k w)
+shared-word-is k w items length′ r = rw (r .0, r .1)
 
 -- the items hold q, whose least ending from h and f on is the least ending of p from h₀ and f₀ on
 pub record Wrote (p : List ℕ) (h₀ f₀ : ℕ) (items : List ℕ) (i h f : ℕ) : Type 0 where

@@ -12,7 +12,7 @@ use Rattle.listing.specs.Position.{wordAt}
 use Rattle.listing_successor.specs.Successor.{successor, paddedWord}
 use Rattle.listing_successor.proofs.Forwards.{empty-not}
 use Rattle.listing_successor.proofs.Places as places
-use Rattle.listing_successor.proofs.Places.{word-at, word-stands, following-at}
+use Rattle.listing_successor.proofs.Places.{word-at, word-occurs, following-at}
 use Rattle.run_answers.specs.declared.Run.{Run}
 use Rattle.run_answers.specs.Promises.{RunAt, RunFinished}
 use Rattle.run_validity.specs.Valid.{Staged, ValidRun}
@@ -34,7 +34,7 @@ pub standing : (run : Run) (S : ValidRun run) → run .stage ≢ 2 → Standing 
 unfolding wordAt count
 standing run S n = go (S .word) (S .staged) (S .long) (S .holds)
   where
-    at-diagram : (w : List ℕ) → run .stage ≡ 1 → run .length ≡ length w → run .items ≡ paddedWord w → places.Stands w (listing (run .size)) → Standing run w
+    at-diagram : (w : List ℕ) → run .stage ≡ 1 → run .length ≡ length w → run .items ≡ paddedWord w → places.OccursIn w (listing (run .size)) → Standing run w
     at-diagram w e l h P = record {
       place = suc (P .place);
       stands = record { sized = S .sized; within = P .within; is = rw (P .is) (run-is run (run .size) 1 w refl e l h) };
@@ -42,7 +42,7 @@ standing run S n = go (S .word) (S .staged) (S .long) (S .holds)
     }
 
     go : (w : List ℕ) → Staged (run .stage) (run .size) w → run .length ≡ length w → run .items ≡ paddedWord w → Standing run w
-    go w (inl s) l h = at-diagram w (s .0) l h (word-stands (run .size) w (s .1))
+    go w (inl s) l h = at-diagram w (s .0) l h (word-occurs (run .size) w (s .1))
     go w (inr (inl z, e)) l h = record {
       place = 0;
       stands = record { sized = S .sized; within = omega arith; is = run-is run (run .size) 0 [] refl z (rw e at l) (rw e at h) };

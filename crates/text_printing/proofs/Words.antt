@@ -19,9 +19,9 @@ use Rattle.text_printing.specs.Printing.{Output, output, put, putAll, wo
 use Rattle.text_printing.proofs.Printing.{put-fits, put-short}
 
 -- the place after the answer
-abbrev pub after : ℕ → Lettered → ℕ
-after i (Length n) = i + n
-after i (Refused k) = i
+abbrev pub placeAfter : ℕ → Lettered → ℕ
+placeAfter i (Length n) = i + n
+placeAfter i (Refused k) = i
 
 leb-false : (a b : ℕ) → leb a b ≡ false → b < a
 leb-false a b e = go (lt? b a)
@@ -42,27 +42,27 @@ module _ (d : List ℕ) (i : ℕ) (within : i ≤ length d) where
   mid-back b e = from-part i [] d b (omega arith) e ∙ from-none i d
 
   module _ (w b : List ℕ) where
-    refused : (k : ℕ) (r : Lettered) → r ≡ Refused k → LettersAfter r w mid b → output (putMid i (length d - i) d b) (after i r) ≡ output d i
+    refused : (k : ℕ) (r : Lettered) → r ≡ Refused k → LettersAfter r w mid b → output (putMid i (length d - i) d b) (placeAfter i r) ≡ output d i
     refused k r e a = rw e (ap (λ (x : List ℕ). output x i) (mid-back b (rw e at a)))
 
     written : (r : Lettered) → r ≡ Length (length (letters w)) → i + length (letters w) ≤ length d → LettersAfter r w mid b
-        → output (putMid i (length d - i) d b) (after i r) ≡ put (letters w) (output d i)
+        → output (putMid i (length d - i) d b) (placeAfter i r) ≡ put (letters w) (output d i)
     written r e h a = rw e (ap (λ (x : List ℕ). output x (i + length (letters w))) (from-part i (letters w) d b h (rw e at a))) ∙ sym (put-fits (letters w) (output d i) h)
 
-    word-put : (r : Lettered) → LettersPromise w mid r b → output (putMid i (length d - i) d b) (after i r) ≡ putAll (wordPieces w) (output d i)
+    word-put : (r : Lettered) → LettersPromise w mid r b → output (putMid i (length d - i) d b) (placeAfter i r) ≡ putAll (wordPieces w) (output d i)
     unfolding putAll wordPieces
     word-put r p = go (startsWithRoot w) refl (leb (length (letters w)) (length mid)) refl
       where
         go : (s : Bool) → startsWithRoot w ≡ s → (f : Bool) → leb (length (letters w)) (length mid) ≡ f
-            → output (putMid i (length d - i) d b) (after i r) ≡ putAll (wordPieces w) (output d i)
+            → output (putMid i (length d - i) d b) (placeAfter i r) ≡ putAll (wordPieces w) (output d i)
         go false e f g = rw e (refused 22 r (p .answer ∙ rw e) (p .room))
         go true e true g = rw e (written r (p .answer ∙ rw (e, g)) (omega (arith, leb-true (length (letters w)) (length mid) g, mid-length)) (p .room))
         go true e false g = rw e (refused 9 r (p .answer ∙ rw (e, g)) (p .room) ∙ sym (put-short (letters w) (output d i) (omega (arith, leb-false (length (letters w)) (length mid) g, mid-length))))
 
-    word-end : (r : Lettered) → LettersPromise w mid r b → after i r ≤ length d
+    word-end : (r : Lettered) → LettersPromise w mid r b → placeAfter i r ≤ length d
     word-end r p = go (startsWithRoot w) refl (leb (length (letters w)) (length mid)) refl
       where
-        go : (s : Bool) → startsWithRoot w ≡ s → (f : Bool) → leb (length (letters w)) (length mid) ≡ f → after i r ≤ length d
+        go : (s : Bool) → startsWithRoot w ≡ s → (f : Bool) → leb (length (letters w)) (length mid) ≡ f → placeAfter i r ≤ length d
         go false e f g = let q : r ≡ Refused 22 = p .answer ∙ rw e in rw q within
         go true e false g = let q : r ≡ Refused 9 = p .answer ∙ rw (e, g) in rw q within
         go true e true g = let q : r ≡ Length (length (letters w)) = p .answer ∙ rw (e, g) in rw q (omega (arith, leb-true (length (letters w)) (length mid) g, mid-length))

@@ -185,14 +185,14 @@ not-refused : (k n : ℕ) → ¬ (Size n ≡ Refused k)
 not-refused k n e = let z : _≡_ {A = ℕ} 0 1 = cc in omega arith
 
 module _ (n : ℕ) (x0 x1 y0 y1 : List ℕ) where
-  picked-gave : (c : Bool) (q : Read) → ReadPromise (cond c q (refused 9)) (Size n) x0 x1 y0 y1 → ReadPromise q (Size n) x0 x1 y0 y1
-  picked-gave true q G = G
-  picked-gave false q G = absurd (not-refused 9 n (G .0))
+  cond-gave : (c : Bool) (q : Read) → ReadPromise (cond c q (refused 9)) (Size n) x0 x1 y0 y1 → ReadPromise q (Size n) x0 x1 y0 y1
+  cond-gave true q G = G
+  cond-gave false q G = absurd (not-refused 9 n (G .0))
 
   -- an answer that gives a size is that of a word which is read
   gave-room : (q : Read) (a b : ℕ) → ReadPromise (withRoom q a b) (Size n) x0 x1 y0 y1 → (D : Pair) × (q ≡ built D) × ReadPromise (built D) (Size n) x0 x1 y0 y1
   gave-room (refused k) a b G = absurd (not-refused k n (G .0))
-  gave-room (built D) a b G = (D, refl, picked-gave (leb (length (D .black)) b) (built D) (picked-gave (leb (length (D .black)) a) _ G))
+  gave-room (built D) a b G = (D, refl, cond-gave (leb (length (D .black)) b) (built D) (cond-gave (leb (length (D .black)) a) _ G))
 
   gave-read : (w : List ℕ) (a b : ℕ) → ReadPromise (readAnswer w a b) (Size n) x0 x1 y0 y1 → (D : Pair) × (read w ≡ built D) × ReadPromise (built D) (Size n) x0 x1 y0 y1
   unfolding readAnswer

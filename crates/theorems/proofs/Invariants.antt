@@ -59,10 +59,10 @@ counted (suc n) t P k = go (t (suc n)) refl (counted n t P (λ x e. k x (omega a
         from x i p (inr q) = C .exactly x .1 (omega arith, p)
 
 -- the largest is one of them
-top-reached : (n : ℕ) (t : ℕ → ℕ) → 1 ≤ n → (x : ℕ) × OneTo n x × (maximum n t ≡ t x)
-top-reached zero t h = absurd (omega arith)
-top-reached (suc zero) t h = (1, omega arith, omega arith)
-top-reached (suc (suc n)) t h = go (top-reached (suc n) t (omega arith)) (lt? (t (suc (suc n))) (maximum (suc n) t))
+maximum-attained : (n : ℕ) (t : ℕ → ℕ) → 1 ≤ n → (x : ℕ) × OneTo n x × (maximum n t ≡ t x)
+maximum-attained zero t h = absurd (omega arith)
+maximum-attained (suc zero) t h = (1, omega arith, omega arith)
+maximum-attained (suc (suc n)) t h = go (maximum-attained (suc n) t (omega arith)) (lt? (t (suc (suc n))) (maximum (suc n) t))
   where
     go : (x : ℕ) × OneTo (suc n) x × (maximum (suc n) t ≡ t x) → (t (suc (suc n)) < maximum (suc n) t) ⊎ (maximum (suc n) t ≤ t (suc (suc n)))
         → (x : ℕ) × OneTo (suc (suc n)) x × (maximum (suc (suc n)) t ≡ t x)
@@ -106,7 +106,7 @@ module _ {n : ℕ} {φ : ℕ → ℕ} (p : Permutation n φ) where
 
   longest-is : 1 ≤ n → (x : ℕ) × OneTo n x × (longest n φ ≡ period n φ x)
   unfolding longest
-  longest-is h = top-reached n (period n φ) h
+  longest-is h = maximum-attained n (period n φ) h
 
   longest-most : (x : ℕ) → OneTo n x → period n φ x ≤ longest n φ
   unfolding longest

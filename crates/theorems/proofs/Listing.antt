@@ -10,7 +10,7 @@ use Rattle.words.proofs.Shape.{word-spells, spells-word}
 use Rattle.labelling.specs.Labelling.{wordOf}
 use Rattle.listing.specs.Listing.{listing, count}
 use Rattle.listing.specs.Position.{wordAt, position}
-use Rattle.listing.proofs.Listing.{listing-sound, listing-complete, listing-sorted}
+use Rattle.listing.proofs.Listing.{listing-words, listing-complete, listing-sorted}
 use Rattle.listing.proofs.Positions.{sorted-at, at-word, position-in, at-position, position-at}
 use Rattle.theorems.specs.Listing.{Listing, ListingHolds}
 use Rattle.theorems.proofs.FirstList.{placed-once}
@@ -24,7 +24,7 @@ increasing n (suc i) (suc j) e f l = sorted-at (listing n) i j (listing-sorted n
 pub listing-holds : ListingHolds
 listing-holds n l = record {
   in-order = listing-sorted n;
-  exactly = λ w. (λ m. word-spells n w (all-mem (Word n) (listing n) (listing-sound n) m), λ s. listing-complete n w (spells-word n w s));
+  exactly = λ w. (λ m. word-spells n w (all-mem (Word n) (listing n) (listing-words n) m), λ s. listing-complete n w (spells-word n w s));
   increasing = increasing n;
   position-of = λ p e. (word-spells n (wordAt n p) (at-word n p e), position-at n p e);
   word-at = λ w s. (position-in n w (spells-word n w s), at-position n w (spells-word n w s));

@@ -212,9 +212,9 @@ module _ (k : ℕ) (r s0 s1 : List ℕ) (S : State (k ∷ r) s0 s1) where
 pub none≢some : (D : Pair) → none ≡ some D → ⊥
 none≢some D e = let z : _≡_ {A = ℕ} 0 1 = cc in omega arith
 
-pub picked : (b : Bool) (q : Option Pair) (D : Pair) → cond b q none ≡ some D → (b ≡ true) × (q ≡ some D)
-picked true q D e = (refl, e)
-picked false q D e = absurd (none≢some D e)
+pub cond-some : (b : Bool) (q : Option Pair) (D : Pair) → cond b q none ≡ some D → (b ≡ true) × (q ≡ some D)
+cond-some true q D e = (refl, e)
+cond-some false q D e = absurd (none≢some D e)
 
 pub keeps : (w st s0 s1 : List ℕ) (D : Pair) → State st s0 s1 → spells w st s0 s1 ≡ some D → Keeps st s0 s1 D
 unfolding spells
@@ -230,7 +230,7 @@ keeps (x ∷ w) [] s0 s1 D S e = absurd (none≢some D e)
 keeps (zero ∷ w) (k ∷ r) s0 s1 D S e = keeps-W k r s0 s1 S D (keeps w r s0 s1 D (state-W k r s0 s1 S) e)
 keeps (suc zero ∷ w) (k ∷ r) s0 s1 D S e = keeps-F k r s0 s1 S D (keeps w _ _ _ D (state-F k r s0 s1 S) e)
 keeps (suc (suc zero) ∷ w) (k ∷ r) s0 s1 D S e = keeps-B k r s0 s1 S D (keeps w _ _ _ D (state-B k r s0 s1 S) e)
-keeps (suc (suc (suc d)) ∷ w) (k ∷ r) s0 s1 D S e = let q = picked (ltb d (length r)) (spells w (removeAt d r) s0 (put (put s1 k (getD r d 0)) (getD r d 0) k)) D e in
+keeps (suc (suc (suc d)) ∷ w) (k ∷ r) s0 s1 D S e = let q = cond-some (ltb d (length r)) (spells w (removeAt d r) s0 (put (put s1 k (getD r d 0)) (getD r d 0) k)) D e in
     let l = ltb-true d (length r) (q .0) in
     keeps-J k r s0 s1 S d l D (keeps w (removeAt d r) s0 _ D (state-J k r s0 s1 S d l) (q .1))
 
@@ -247,7 +247,7 @@ short (zero ∷ w) (k ∷ r) s0 s1 D e = let i = short w r s0 s1 D e in omega ar
 short (suc zero ∷ w) (k ∷ r) s0 s1 D e = let i = rw length-3 at (short w _ _ _ D e) in omega arith
 short (suc (suc zero) ∷ w) (k ∷ r) s0 s1 D e = let i = rw length-1 at (short w _ _ _ D e) in omega arith
 short (suc (suc (suc d)) ∷ w) (k ∷ r) s0 s1 D e =
-    let q = picked (ltb d (length r)) (spells w (removeAt d r) s0 (put (put s1 k (getD r d 0)) (getD r d 0) k)) D e in
+    let q = cond-some (ltb d (length r)) (spells w (removeAt d r) s0 (put (put s1 k (getD r d 0)) (getD r d 0) k)) D e in
     let i = short w (removeAt d r) s0 _ D (q .1) in
     let j = length-removeAt d r (ltb-true d (length r) (q .0)) in
     omega arith

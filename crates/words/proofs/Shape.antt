@@ -11,7 +11,7 @@ use Rattle.lists.proofs.Lists.{length-removeAt, length-3, length-1}
 use Rattle.lists.proofs.Tests.{lt-true, ltb-true}
 use Rattle.words.specs.Shape.{less1, less3, Fits, Word}
 use Rattle.words.specs.Word.{Pair, spells, spell, Spells}
-use Rattle.words.proofs.Growing.{none≢some, picked}
+use Rattle.words.proofs.Growing.{none≢some, cond-some}
 
 -- a word that spells, as far as the numbers of pending and free labels tell
 pub grows : (w st s0 s1 : List ℕ) (D : Pair) → spells w st s0 s1 ≡ some D → length s0 ≤ length (D .black)
@@ -25,7 +25,7 @@ grows (x ∷ w) [] s0 s1 D e = absurd (none≢some D e)
 grows (zero ∷ w) (k ∷ r) s0 s1 D e = grows w r s0 s1 D e
 grows (suc zero ∷ w) (k ∷ r) s0 s1 D e = let i = rw length-3 at (grows w _ _ _ D e) in omega arith
 grows (suc (suc zero) ∷ w) (k ∷ r) s0 s1 D e = let i = rw length-1 at (grows w _ _ _ D e) in omega arith
-grows (suc (suc (suc d)) ∷ w) (k ∷ r) s0 s1 D e = grows w (removeAt d r) s0 (put (put s1 k (getD r d 0)) (getD r d 0) k) D (picked (ltb d (length r)) (spells w (removeAt d r) s0 (put (put s1 k (getD r d 0)) (getD r d 0) k)) D e .1)
+grows (suc (suc (suc d)) ∷ w) (k ∷ r) s0 s1 D e = grows w (removeAt d r) s0 (put (put s1 k (getD r d 0)) (getD r d 0) k) D (cond-some (ltb d (length r)) (spells w (removeAt d r) s0 (put (put s1 k (getD r d 0)) (getD r d 0) k)) D e .1)
 
 fits : (w st s0 s1 : List ℕ) (D : Pair) (f : ℕ) → spells w st s0 s1 ≡ some D → length (D .black) ≡ length s0 + f → Fits (length st) f w
 unfolding spells
@@ -48,7 +48,7 @@ fits (suc (suc zero) ∷ w) (k ∷ r) s0 s1 D f e n = go f n (rw length-1 at (gr
     go zero n i k = omega arith
     go (suc f) n i k = k f (omega arith)
 fits (suc (suc (suc d)) ∷ w) (k ∷ r) s0 s1 D f e n =
-    let q = picked (ltb d (length r)) (spells w (removeAt d r) s0 (put (put s1 k (getD r d 0)) (getD r d 0) k)) D e in
+    let q = cond-some (ltb d (length r)) (spells w (removeAt d r) s0 (put (put s1 k (getD r d 0)) (getD r d 0) k)) D e in
     let l = ltb-true d (length r) (q .0) in
     let z = length-removeAt d r l in
     rw (← z) (omega arith, fits w (removeAt d r) s0 _ D f (q .1) n)

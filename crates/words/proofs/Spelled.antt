@@ -14,7 +14,7 @@ use Rattle.lists.proofs.Ranges.{has-down}
 use Rattle.lists.proofs.Tests.{same?, ltb-true}
 use Rattle.diagrams.specs.Diagram.{Reached, Diagram, here, black, white}
 use Rattle.words.specs.Word.{Pair, spells, spell}
-use Rattle.words.proofs.Growing.{State, keeps, state-W, state-F, state-B, state-J, k-in, p-in, F-k, F-w, F-c, F-sc, F-ssc, B-k, B-w, B-c, W-k, Jd-k, Jd-p, none≢some, picked, state-U, state-T}
+use Rattle.words.proofs.Growing.{State, keeps, state-W, state-F, state-B, state-J, k-in, p-in, F-k, F-w, F-c, F-sc, F-ssc, B-k, B-w, B-c, W-k, Jd-k, Jd-p, none≢some, cond-some, state-U, state-T}
 
 -- of the labels up to c, those of st pending
 record Good (f g : ℕ → ℕ) (c : ℕ) (st : List ℕ) : Type 0 where
@@ -161,7 +161,7 @@ good (suc (suc zero) ∷ w) (k ∷ r) s0 s1 D S e G =
     let K = keeps w _ _ _ D T e in
     good w _ _ _ D T e (rw length-1 (good-B _ _ (length s0) k r G (k-in k r s0 s1 S) (B-k k r s0 s1 S D K) (B-w k r s0 s1 S D K) (B-c k r s0 s1 S D K)))
 good (suc (suc (suc d)) ∷ w) (k ∷ r) s0 s1 D S e G =
-    let q = picked (ltb d (length r)) (spells w (removeAt d r) s0 (put (put s1 k (getD r d 0)) (getD r d 0) k)) D e in
+    let q = cond-some (ltb d (length r)) (spells w (removeAt d r) s0 (put (put s1 k (getD r d 0)) (getD r d 0) k)) D e in
     let l = ltb-true d (length r) (q .0) in
     let T = state-J k r s0 s1 S d l in
     let K = keeps w (removeAt d r) s0 _ D T (q .1) in

@@ -12,7 +12,7 @@ use Rattle.lists.specs.Lists.{put, removeAt}
 use Rattle.lists.proofs.Tests.{leb-true, le-true}
 use Rattle.lists.proofs.Lists.{length-1, length-3}
 use Rattle.words.specs.Word.{Pair, spells, spell}
-use Rattle.words.proofs.Growing.{none≢some, picked}
+use Rattle.words.proofs.Growing.{none≢some, cond-some}
 use Rattle.words.proofs.Shape.{grows}
 use Rattle.words_reading.specs.Read.{Read, refused, built, items, readFirst, read}
 
@@ -88,7 +88,7 @@ spells-items (suc (suc zero) ∷ w) (k ∷ r) s0 s1 D l e =
     let g = rw length-1 at (grows w _ _ _ D e) in
     rw (le-true (suc (length s0)) 1024 (omega arith)) (spells-items w _ _ _ D l e)
 spells-items (suc (suc (suc d)) ∷ w) (k ∷ r) s0 s1 D l e =
-    let q = picked (ltb d (length r)) (spells w (removeAt d r) s0 (put (put s1 k (getD r d 0)) (getD r d 0) k)) D e in
+    let q = cond-some (ltb d (length r)) (spells w (removeAt d r) s0 (put (put s1 k (getD r d 0)) (getD r d 0) k)) D e in
     rw (q .0) (spells-items w _ _ _ D l (q .1))
 
 spell-opening : (w : List ℕ) (D : Pair) → length (D .black) ≤ 1024 → spell w ≡ some D → readFirst w ≡ built D

@@ -17,7 +17,7 @@ use Rattle.words.proofs.Growing as growing
 use Rattle.words.proofs.Shape.{grows, spells-word, word-length}
 use Rattle.words_spelling_events.specs.States.{State, topLabel, eventState, stateAfter, stateOf}
 use Rattle.words_spelling_events.specs.Spelling.{SpellingHeld}
-use Rattle.words_spelling_events.proofs.States.{Goes, Sound, popped-first, jump-deep, begun-good, begun-more}
+use Rattle.words_spelling_events.proofs.States.{Goes, ValidState, popped-first, jump-deep, begun-good, begun-more}
 use Rattle.words_respelling_undo.specs.SpelledSoFar.{ListedWord, ScratchLengths, BeginningOf, SpelledSoFar, JoinUndone}
 use Rattle.words_respelling_undo.proofs.Holding.{low}
 use Rattle.words_respelling_undo.proofs.Undone.{undo-W, undo-F, undo-B, undo-J, partner}
@@ -57,7 +57,7 @@ pub record Last (p : List ℕ) (x : ℕ) (stack popped s0 s1 : List ℕ) (used h
   pub diagram : Pair
   pub begins : BeginningOf p (x ∷ rest) diagram
   pub goes : Goes diagram (x ∷ rest) (stateOf p)
-  pub sound : growing.State (k ∷ below p) (stateOf p .black) (stateOf p .white)
+  pub valid : growing.State (k ∷ below p) (stateOf p .black) (stateOf p .white)
   pub pending-is : stateOf p .pending ≡ k ∷ below p
   pub long : ScratchLengths stack popped s0 s1
   pub holds : SpellingHeld (left p x k .pending) (left p x k .black) (left p x k .white) s0 s1 stack s0 s1 used
@@ -71,7 +71,7 @@ last w stack popped s0 s1 i used h a l R = rw is-top record {
   diagram = R .diagram;
   begins = before;
   goes = good .0;
-  sound = rw (← first) (good .1);
+  valid = rw (← first) (good .1);
   pending-is = first;
   long = R .long;
   holds = rw (begun-next w i a l) at (R .holds);
@@ -90,7 +90,7 @@ last w stack popped s0 s1 i used h a l R = rw is-top record {
     before : BeginningOf (take i w) (getD w i 0 ∷ R .rest) (R .diagram)
     before = record { some-item = rw (length-take-le i w (omega arith)) a; spelt = spelt; small = R .begins .small }
 
-    good : Goes (R .diagram) (getD w i 0 ∷ R .rest) (stateOf (take i w)) × Sound (stateOf (take i w))
+    good : Goes (R .diagram) (getD w i 0 ∷ R .rest) (stateOf (take i w)) × ValidState (stateOf (take i w))
     good = begun-good (R .diagram) (take i w) (getD w i 0 ∷ R .rest) (before .some-item) spelt
 
     first : stateOf (take i w) .pending ≡ topLabel (stateOf (take i w)) ∷ below (take i w)
@@ -113,8 +113,8 @@ module _ (p stack popped s0 s1 : List ℕ) (used h k : ℕ) where
   few x Z =
       let i = grows (x ∷ Z .rest) (stateOf p .pending) (stateOf p .black) (stateOf p .white) (Z .diagram) (Z .goes) in
       let j = Z .begins .small in
-      let e = Z .sound .within k (inl refl) in
-      record { k-in = omega arith; lower = low (k ∷ below p) (stateOf p .black) (stateOf p .white) (Z .sound); small = omega arith }
+      let e = Z .valid .within k (inl refl) in
+      record { k-in = omega arith; lower = low (k ∷ below p) (stateOf p .black) (stateOf p .white) (Z .valid); small = omega arith }
 
   remade : (x : ℕ) → Last p x stack popped s0 s1 used h k → (q t : List ℕ) (u g : ℕ) → SpellingHeld (k ∷ below p) (stateOf p .black) (stateOf p .white) s0 t q s0 t u
       → length t ≡ 64 → g ≡ suc (length (below p)) → SpelledSoFar p q popped s0 t u g
@@ -138,7 +138,7 @@ module _ (p stack popped s0 s1 : List ℕ) (used h k : ℕ) where
     pub spelling-W : SpelledSoFar p (set stack h k) popped s0 s1 used (h + 1)
     unfolding eventState
     spelling-W = let i = room-W in let e = Z .height-is in
-        remade 0 Z _ _ _ _ (undo-W k (below p) _ _ (Z .sound) s0 s1 stack used h (Z .holds) (Z .height-is) (omega arith)) (Z .long .s1-long) (omega arith)
+        remade 0 Z _ _ _ _ (undo-W k (below p) _ _ (Z .valid) s0 s1 stack used h (Z .holds) (Z .height-is) (omega arith)) (Z .long .s1-long) (omega arith)
 
   module _ (Z : Last p 1 stack popped s0 s1 used h k) where
     room-F : (2 ≤ h) × (h < 64) × (3 ≤ used)
@@ -152,7 +152,7 @@ module _ (p stack popped s0 s1 : List ℕ) (used h k : ℕ) where
     pub spelling-F : SpelledSoFar p (set stack (h - 2) k) popped s0 (set s1 (k - 1) k) (used - 3) (h - 1)
     unfolding eventState
     spelling-F = let i = room-F in let e = Z .height-is in
-        remade 1 Z _ _ _ _ (undo-F k (below p) _ _ (Z .sound) s0 s1 stack used h (Z .holds) (Z .height-is) (i .1)) (length-set s1 (k - 1) k ∙ Z .long .s1-long) (omega arith)
+        remade 1 Z _ _ _ _ (undo-F k (below p) _ _ (Z .valid) s0 s1 stack used h (Z .holds) (Z .height-is) (i .1)) (length-set s1 (k - 1) k ∙ Z .long .s1-long) (omega arith)
 
   module _ (Z : Last p 2 stack popped s0 s1 used h k) where
     room-B : (h < 50) × (1 ≤ used)
@@ -166,7 +166,7 @@ module _ (p stack popped s0 s1 : List ℕ) (used h k : ℕ) where
     pub spelling-B : SpelledSoFar p (set stack h k) popped s0 (set s1 (k - 1) k) (used - 1) (h + 1)
     unfolding eventState
     spelling-B = let i = room-B in let e = Z .height-is in
-        remade 2 Z _ _ _ _ (undo-B k (below p) _ _ (Z .sound) s0 s1 stack used h (Z .holds) (Z .height-is) (omega arith)) (length-set s1 (k - 1) k ∙ Z .long .s1-long) (omega arith)
+        remade 2 Z _ _ _ _ (undo-B k (below p) _ _ (Z .valid) s0 s1 stack used h (Z .holds) (Z .height-is) (omega arith)) (length-set s1 (k - 1) k ∙ Z .long .s1-long) (omega arith)
 
   module _ (d : ℕ) (Z : Last p (suc (suc (suc d))) stack popped s0 s1 used h k) where
     deep : d < length (below p)
@@ -178,14 +178,14 @@ module _ (p stack popped s0 s1 : List ℕ) (used h k : ℕ) where
 
     joined-to : at s1 k ≡ getD (below p) d 0
     unfolding eventState
-    joined-to = partner k (below p) _ _ (Z .sound) s0 s1 stack used h d deep (Z .holds) high
+    joined-to = partner k (below p) _ _ (Z .valid) s0 s1 stack used h d deep (Z .holds) high
 
     room-J : (d ≤ h) × (h < 63) × (length stack ≡ 64) × (length s1 ≡ 64) × OneTo 64 k × OneTo 64 (at s1 k)
     room-J =
         let f = few _ Z in
         let i = deep in
         let e = high in
-        let j = p-in k (below p) _ _ (Z .sound) d deep in
+        let j = p-in k (below p) _ _ (Z .valid) d deep in
         (omega arith, omega arith, Z .long .stack-long, Z .long .s1-long, let z = f .k-in in omega arith, rw joined-to (omega arith))
 
     pub spelling-J : (q t : List ℕ) → JoinUndone stack q s1 t k d h → SpelledSoFar p q popped s0 t used (h + 2)
@@ -193,7 +193,7 @@ module _ (p stack popped s0 s1 : List ℕ) (used h k : ℕ) where
     spelling-J q t U =
         let i = room-J in
         let e = high in
-        remade _ Z _ _ _ _ (undo-J k (below p) _ _ (Z .sound) s0 s1 stack used h d deep (Z .holds) high q t (i .1) U)
+        remade _ Z _ _ _ _ (undo-J k (below p) _ _ (Z .valid) s0 s1 stack used h d deep (Z .holds) high q t (i .1) U)
         (ap length (U .parted) ∙ simp length-put (Z .long .s1-long)) (omega arith)
 
 -- what is asked for to take an item back, and what the code may rely on then

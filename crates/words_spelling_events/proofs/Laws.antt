@@ -13,7 +13,7 @@ use Rattle.lists.proofs.Tests.{ltb-true}
 use Rattle.lists.proofs.Lists.{has-getD, all-has, all-map, all-removeAt, length-removeAt, length-put, length-1, length-3}
 use Rattle.words.specs.Word.{Pair, spells, spell, Spells}
 use Rattle.words.proofs.Outputs.{over-length, over-one}
-use Rattle.words.proofs.Growing.{none≢some, picked}
+use Rattle.words.proofs.Growing.{none≢some, cond-some}
 use Rattle.words.proofs.Shape.{grows}
 use Rattle.words_spelling_stores.specs.Stores.{setThree, Shifted}
 use Rattle.words_spelling_events.specs.States.{State, eventState, stateAfter, firstState}
@@ -199,7 +199,7 @@ module _ (D : Pair) (w : List ℕ) (S : State) (a0 a1 stack b0 b1 : List ℕ) (u
 
       jumped : (ltb d (length (P .rest)) ≡ true) × (spells w (removeAt d (P .rest)) (S .black) rest-white ≡ some D)
       unfolding spells
-      jumped = picked (ltb d (length (P .rest))) (spells w (removeAt d (P .rest)) (S .black) rest-white) D (rw is-J at (P .goes))
+      jumped = cond-some (ltb d (length (P .rest))) (spells w (removeAt d (P .rest)) (S .black) rest-white) D (rw is-J at (P .goes))
 
       deep : d < length (P .rest)
       deep = ltb-true d (length (P .rest)) (jumped .0)

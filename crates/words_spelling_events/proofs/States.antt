@@ -9,7 +9,7 @@ use lib.ListN.{length, getD}
 use Rattle.lists.specs.Lists.{put, removeAt}
 use Rattle.lists.proofs.Tests.{ltb-true}
 use Rattle.words.specs.Word.{Pair, spells, spell}
-use Rattle.words.proofs.Growing.{none≢some, picked, state-W, state-F, state-B, state-J, state-U, state-T}
+use Rattle.words.proofs.Growing.{none≢some, cond-some, state-W, state-F, state-B, state-J, state-U, state-T}
 use Rattle.words.proofs.Growing as growing
 use Rattle.words_spelling_events.specs.States.{State, topLabel, eventState, stateAfter, firstState, stateAfterAll, stateOf}
 
@@ -18,8 +18,8 @@ abbrev pub Goes : Pair → List ℕ → State → Type 0
 Goes D w S = spells w (S .pending) (S .black) (S .white) ≡ some D
 
 -- the pending labels are apart, among those given, and each its own partner so far
-abbrev pub Sound : State → Type 0
-Sound S = growing.State (S .pending) (S .black) (S .white)
+abbrev pub ValidState : State → Type 0
+ValidState S = growing.State (S .pending) (S .black) (S .white)
 
 -- ---- an item that is read
 
@@ -36,7 +36,7 @@ jumped : (D : Pair) (d k : ℕ) (w r s0 s1 : List ℕ) → spells (suc (suc (suc
     → (d < length r) × (spells w (removeAt d r) s0 (put (put s1 k (getD r d 0)) (getD r d 0) k) ≡ some D)
 unfolding spells
 jumped D d k w r s0 s1 e =
-    let q = picked (ltb d (length r)) (spells w (removeAt d r) s0 (put (put s1 k (getD r d 0)) (getD r d 0) k)) D e in
+    let q = cond-some (ltb d (length r)) (spells w (removeAt d r) s0 (put (put s1 k (getD r d 0)) (getD r d 0) k)) D e in
     (ltb-true d (length r) (q .0), q .1)
 
 -- Jd finds d labels and one more below the top
@@ -59,11 +59,11 @@ after-item D x w S e = go x (S .pending) e
     go (suc (suc zero)) (k ∷ r) g = g
     go (suc (suc (suc d))) (k ∷ r) g = jumped D d k w r (S .black) (S .white) g .1
 
-pub sound-after-item : (D : Pair) (x : ℕ) (w : List ℕ) (S : State) → Goes D (x ∷ w) S → Sound S → Sound (stateAfter x S)
+pub valid-after-item : (D : Pair) (x : ℕ) (w : List ℕ) (S : State) → Goes D (x ∷ w) S → ValidState S → ValidState (stateAfter x S)
 unfolding spells eventState
-sound-after-item D x w S e s = go x (S .pending) e s
+valid-after-item D x w S e s = go x (S .pending) e s
   where
-    go : (x : ℕ) (p : List ℕ) → spells (x ∷ w) p (S .black) (S .white) ≡ some D → growing.State p (S .black) (S .white) → Sound (eventState x (getD p 0 0) (removeAt 0 p) (S .black) (S .white))
+    go : (x : ℕ) (p : List ℕ) → spells (x ∷ w) p (S .black) (S .white) ≡ some D → growing.State p (S .black) (S .white) → ValidState (eventState x (getD p 0 0) (removeAt 0 p) (S .black) (S .white))
     go x [] g s = absurd (none≢some D g)
     go zero (k ∷ r) g s = state-W k r (S .black) (S .white) s
     go (suc zero) (k ∷ r) g s = state-F k r (S .black) (S .white) s
@@ -72,12 +72,12 @@ sound-after-item D x w S e s = go x (S .pending) e s
 
 -- ---- the state after a beginning of a word
 
-reached-good : (D : Pair) (u w : List ℕ) (S : State) → Goes D (u ++ w) S → Sound S → Goes D w (stateAfterAll u S) × Sound (stateAfterAll u S)
+reached-good : (D : Pair) (u w : List ℕ) (S : State) → Goes D (u ++ w) S → ValidState S → Goes D w (stateAfterAll u S) × ValidState (stateAfterAll u S)
 unfolding stateAfterAll
 reached-good D [] w S e s = (e, s)
-reached-good D (x ∷ u) w S e s = reached-good D u w (stateAfter x S) (after-item D x (u ++ w) S e) (sound-after-item D x (u ++ w) S e s)
+reached-good D (x ∷ u) w S e s = reached-good D u w (stateAfter x S) (after-item D x (u ++ w) S e) (valid-after-item D x (u ++ w) S e s)
 
-pub begun-good : (D : Pair) (p w : List ℕ) → 1 ≤ length p → spell (p ++ w) ≡ some D → Goes D w (stateOf p) × Sound (stateOf p)
+pub begun-good : (D : Pair) (p w : List ℕ) → 1 ≤ length p → spell (p ++ w) ≡ some D → Goes D w (stateOf p) × ValidState (stateOf p)
 unfolding spell firstState stateOf
 begun-good D [] w l e = absurd (omega arith)
 begun-good D (zero ∷ p) w l e = reached-good D p w _ e state-U

@@ -3,7 +3,7 @@
 //! that lead to no diagram of the size are left at once.
 use crate::table::{ends, MAX_LISTED};
 use crate::tuned::labelling::{Bits, Rooting};
-use crate::tuned::pending::Pile;
+use crate::tuned::pending::Stack;
 use crate::tuned::SMALL;
 
 const ROOM: usize = MAX_LISTED + 4;
@@ -144,5 +144,5 @@ impl<F: FnMut(&[u16], &[u16], &[u16])> Generator<F> {
 /// The keep mark of a diagram whose word is known, in its characteristic labelling.
 pub fn kept_known(s0: &[u16], s1: &[u16], word: &[u16]) -> bool {
     let mut room = [0; SMALL];
-    Rooting::<Bits, SMALL>::new(s0, s1, Pile::over(&mut room)).least(1, word)
+    Rooting::<Bits, SMALL>::new(s0, s1, Stack::over(&mut room)).least(1, word)
 }

@@ -3,7 +3,7 @@ use crate::given::outcome;
 use crate::lists::{overwritten, room};
 use crate::random::Random;
 use crate::runs::{anywhere, damage, library_run, reference_run};
-use crate::tally::{Compared, Difference, Tally};
+use crate::outcomes::{Compared, Difference, OutcomeCounts};
 use kaldvemir::Refusal;
 use reference::{Block, BlockRooms, Run};
 
@@ -62,7 +62,7 @@ fn kind(run: &Run, rows: u64, given: u64) -> &'static str {
 }
 
 /// One block of both from the same run: compares the answers, the runs and the lists after it, and returns what an accepted call wrote.
-fn block(run: &mut Run, rows: u64, before: &Lists, marked: bool, tally: &mut Tally) -> Result<Option<Block>, Box<Difference>> {
+fn block(run: &mut Run, rows: u64, before: &Lists, marked: bool, counts: &mut OutcomeCounts) -> Result<Option<Block>, Box<Difference>> {
     let input = (run.clone(), rows, before);
     let (mut other, mut lists) = (library_run(run), before.clone());
     let Lists { s0, s1, words, lengths, marks } = &mut lists;
@@ -76,7 +76,7 @@ fn block(run: &mut Run, rows: u64, before: &Lists, marked: bool, tally: &mut Tal
     let given = reference.as_ref().map(|block| block.lengths.len() as u64).map_err(|number| *number);
     let kind = outcome(&given, |given| kind(&input.0, rows, *given));
     let library = (library.map_err(Refusal::number), reference_run(&other), lists);
-    tally.compare(operation, kind, &library, &(given, run.clone(), after), &input)?;
+    counts.compare(operation, kind, &library, &(given, run.clone(), after), &input)?;
     Ok(reference.ok())
 }
 
@@ -109,7 +109,7 @@ fn rows(random: &mut Random, n: u64, left: u64) -> u64 {
 }
 
 /// A few blocks from anywhere, up to the first that is refused, with damage now and then; a damaged run that is still valid goes on.
-fn blocks(random: &mut Random, marked: bool, tally: &mut Tally) -> Compared {
+fn blocks(random: &mut Random, marked: bool, counts: &mut OutcomeCounts) -> Compared {
     let mut run = anywhere(random, 75);
     for _ in 0..1 + random.below(4) {
         let rows = rows(random, run.size.into(), left(&run));
@@ -117,7 +117,7 @@ fn blocks(random: &mut Random, marked: bool, tally: &mut Tally) -> Compared {
             damage(random, &mut run);
         }
         let lists = Lists::any(random, run.size.min(60).into(), rows);
-        let refused = block(&mut run, rows, &lists, marked, tally)?.is_none();
+        let refused = block(&mut run, rows, &lists, marked, counts)?.is_none();
         if refused || (run.stage == 2 && random.percent(70)) {
             return Ok(());
         }
@@ -125,23 +125,23 @@ fn blocks(random: &mut Random, marked: bool, tally: &mut Tally) -> Compared {
     Ok(())
 }
 
-pub fn list(random: &mut Random, tally: &mut Tally) -> Compared {
-    blocks(random, false, tally)
+pub fn list(random: &mut Random, counts: &mut OutcomeCounts) -> Compared {
+    blocks(random, false, counts)
 }
 
-pub fn list_marked(random: &mut Random, tally: &mut Tally) -> Compared {
-    blocks(random, true, tally)
+pub fn list_marked(random: &mut Random, counts: &mut OutcomeCounts) -> Compared {
+    blocks(random, true, counts)
 }
 
 /// A whole list of a size in blocks against the listing, with refused calls in between, and to its end more than once.
-pub fn whole(size: u16, random: &mut Random, tally: &mut Tally) -> Compared {
+pub fn whole(size: u16, random: &mut Random, counts: &mut OutcomeCounts) -> Compared {
     for marked in [false, true] {
         let mut run = Run::begin(size.into()).expect("a size in range");
         let (mut given, mut ends) = (vec![], 0);
         while ends < 3 {
             let rows = random.between(1, 300);
             let lists = Lists::any(random, size.into(), rows);
-            if let Some(block) = block(&mut run, rows, &lists, marked, tally)? {
+            if let Some(block) = block(&mut run, rows, &lists, marked, counts)? {
                 given.extend(block.words);
                 ends += u32::from(run.stage == 2);
             }

@@ -3,7 +3,7 @@
 use crate::given::{accepted, outcome};
 use crate::lists::Lists;
 use crate::random::Random;
-use crate::tally::{Compared, Difference, Tally};
+use crate::outcomes::{Compared, Difference, OutcomeCounts};
 use kaldvemir::Refusal;
 use reference::Book;
 
@@ -72,7 +72,7 @@ fn by_reference(book: &mut Book, call: &Call) -> Answered {
 }
 
 /// Makes a call on both books and compares the answers, the lists and the books; returns what an accepted call gave.
-fn call(book: &mut Book, call: &Call, tally: &mut Tally) -> Result<Option<Given>, Box<Difference>> {
+fn call(book: &mut Book, call: &Call, counts: &mut OutcomeCounts) -> Result<Option<Given>, Box<Difference>> {
     let before = book.clone();
     let mut other = library_book(book);
     let library = by_library(&mut other, call);
@@ -89,31 +89,31 @@ fn call(book: &mut Book, call: &Call, tally: &mut Tally) -> Result<Option<Given>
         Given::Report(_, false) => "open",
         _ => "accepted",
     });
-    tally.compare(name, kind, &(&library, &reference_book(&other)), &(&reference, book), &(&before, call))?;
+    counts.compare(name, kind, &(&library, &reference_book(&other)), &(&reference, book), &(&before, call))?;
     Ok(reference.0.ok())
 }
 
 /// A book with anything in it, opened: a refused opening leaves it.
-pub fn open(random: &mut Random, tally: &mut Tally) -> Compared {
+pub fn open(random: &mut Random, counts: &mut OutcomeCounts) -> Compared {
     let size = if random.percent(70) { random.between(1, 50) } else { random.near(&[0, 1, 50]) };
     let shares = if random.percent(70) { random.between(1, 32) } else { random.near(&[0, 1, 32]) };
     let mut book = Book::blank();
     if random.percent(80) {
-        [book.size, book.shares, book.latest, book.issued] = [random.wide(), random.wide(), random.wide(), random.wide()];
+        [book.size, book.shares, book.latest, book.issued] = [random.any_width(), random.any_width(), random.any_width(), random.any_width()];
         for list in [&mut book.next, &mut book.ticket, &mut book.expiry] {
-            list.iter_mut().for_each(|entry| *entry = random.wide());
+            list.iter_mut().for_each(|entry| *entry = random.any_width());
         }
     }
-    opened(&mut book, size, shares, tally)
+    opened(&mut book, size, shares, counts)
 }
 
-fn opened(book: &mut Book, size: u64, shares: u64, tally: &mut Tally) -> Compared {
+fn opened(book: &mut Book, size: u64, shares: u64, counts: &mut OutcomeCounts) -> Compared {
     let before = book.clone();
     let mut other = library_book(book);
     let library = other.open(size, shares).map_err(Refusal::number);
     let reference = book.open(size, shares);
     let kind = outcome(&reference, accepted);
-    tally.compare("open", kind, &(library, reference_book(&other)), &(reference, book.clone()), &(&before, size, shares))
+    counts.compare("open", kind, &(library, reference_book(&other)), &(reference, book.clone()), &(&before, size, shares))
 }
 
 /// A session: the tickets it was ever given and the last position it took, which it holds to however late it wakes.
@@ -124,11 +124,11 @@ struct Session {
 }
 
 /// A book from its opening until some calls after it is complete, or for many calls.
-pub fn life(random: &mut Random, tally: &mut Tally) -> Compared {
+pub fn life(random: &mut Random, counts: &mut OutcomeCounts) -> Compared {
     let size = if random.percent(85) { random.between(1, 7) } else { random.between(1, 50) };
     let shares = if random.percent(75) { random.between(1, 5) } else { random.between(1, 32) };
     let mut book = Book::blank();
-    opened(&mut book, size, shares, tally)?;
+    opened(&mut book, size, shares, counts)?;
     if random.percent(10) {
         book.issued = 65_535 - random.between(0, 12);
     }
@@ -137,7 +137,7 @@ pub fn life(random: &mut Random, tally: &mut Tally) -> Compared {
     }
     let crew = 1 + random.below(6);
     let mut sessions: Vec<Session> = (0..crew).map(|_| Session::default()).collect();
-    let patience = random.pick(&[1, 4, 40, 2000]);
+    let patience = random.choose(&[1, 4, 40, 2000]);
     let mut left = 40 + random.below(300);
     while left > 0 {
         if book.report().is_ok_and(|report| report.complete) {
@@ -149,10 +149,10 @@ pub fn life(random: &mut Random, tally: &mut Tally) -> Compared {
         if random.percent(8) {
             let mut copy = book.clone();
             damage(random, &mut copy);
-            call(&mut copy, &next, tally)?;
-            call(&mut copy, &Call::Report, tally)?;
+            call(&mut copy, &next, counts)?;
+            call(&mut copy, &Call::Report, counts)?;
         }
-        match call(&mut book, &next, tally)? {
+        match call(&mut book, &next, counts)? {
             Some(Given::Ticket(ticket)) => session.tickets.push(ticket),
             Some(Given::Position(_, position, _)) => session.position = position,
             _ => (),
@@ -217,7 +217,7 @@ fn share(random: &mut Random, book: &Book) -> u64 {
         0 => random.near(&[0, book.shares]),
         1 | 2 => random.between(1, book.shares),
         _ if free.is_empty() => random.between(1, book.shares),
-        _ => random.pick(&free),
+        _ => random.choose(&free),
     }
 }
 

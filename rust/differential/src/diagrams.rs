@@ -243,7 +243,7 @@ pub fn damage(random: &mut Random, diagram: &mut Diagram) {
             8 | 9 => alter_lengths(random, diagram),
             10 => reconnect(random, diagram),
             _ if random.percent(30) => make_too_long(random, diagram),
-            _ => cut(random, diagram),
+            _ => shorten(random, diagram),
         }
     }
 }
@@ -269,7 +269,7 @@ fn alter_root(random: &mut Random, diagram: &mut Diagram) {
 }
 
 fn alter_lengths(random: &mut Random, diagram: &mut Diagram) {
-    let (black, white) = random.pick(&[(true, false), (false, true), (true, true)]);
+    let (black, white) = random.choose(&[(true, false), (false, true), (true, true)]);
     for (list, altered) in [(&mut diagram.s0, black), (&mut diagram.s1, white)] {
         if altered && random.percent(50) {
             list.push(list.len() as u16 + 1);
@@ -314,9 +314,9 @@ fn make_too_long(random: &mut Random, diagram: &mut Diagram) {
     }
 }
 
-fn cut(random: &mut Random, diagram: &mut Diagram) {
+fn shorten(random: &mut Random, diagram: &mut Diagram) {
     let length = if random.percent(60) { 0 } else { random.below(diagram.s0.len() + 1) };
-    let (black, white) = random.pick(&[(true, false), (false, true), (true, true)]);
+    let (black, white) = random.choose(&[(true, false), (false, true), (true, true)]);
     if black {
         diagram.s0.truncate(length);
     }

@@ -2,7 +2,7 @@
 use crate::diagrams::{any, carried, damage, mirror, reconnect, Diagram, Mix, EVERY, FEW_LARGE};
 use crate::lists::{any_word, overwritten, pair, room, Lists};
 use crate::random::Random;
-use crate::tally::{Compared, Outcome, Tally};
+use crate::outcomes::{Compared, Outcome, OutcomeCounts};
 use kaldvemir::{Refusal, Side, Sided};
 
 /// The outcome of an answer, whose acceptance is of the kind named.
@@ -30,27 +30,27 @@ fn lent(random: &mut Random, mix: Mix) -> Diagram {
     diagram
 }
 
-pub fn check(random: &mut Random, tally: &mut Tally) -> Compared {
+pub fn check(random: &mut Random, counts: &mut OutcomeCounts) -> Compared {
     let lent = lent(random, EVERY);
     let Diagram { s0, s1, root } = &lent;
     let library = kaldvemir::check(s0, s1, *root).map_err(Refusal::number);
     let reference = reference::check(s0, s1, *root);
-    tally.compare("check", outcome(&reference, accepted), &library, &reference, &lent)
+    counts.compare("check", outcome(&reference, accepted), &library, &reference, &lent)
 }
 
-pub fn all_reached(random: &mut Random, tally: &mut Tally) -> Compared {
+pub fn all_reached(random: &mut Random, counts: &mut OutcomeCounts) -> Compared {
     let length = if random.percent(95) { random.below(40) } else { random.below(1100) };
     let mut marks = vec![1; length];
     for _ in 0..random.below(3) {
         if length > 0 {
-            marks[random.below(length)] = random.pick(&[0, 1, 2, 3, 129, 255]);
+            marks[random.below(length)] = random.choose(&[0, 1, 2, 3, 129, 255]);
         }
     }
     let (library, reference) = (kaldvemir::all_reached(&marks), reference::all_reached(&marks));
-    tally.compare("all reached", Outcome::Accepted(yes_or_no(&reference)), &library, &reference, &marks)
+    counts.compare("all reached", Outcome::Accepted(yes_or_no(&reference)), &library, &reference, &marks)
 }
 
-pub fn relabel(random: &mut Random, tally: &mut Tally) -> Compared {
+pub fn relabel(random: &mut Random, counts: &mut OutcomeCounts) -> Compared {
     let lent = lent(random, EVERY);
     let Diagram { s0, s1, root } = &lent;
     let before = Lists::any(random, s0.len());
@@ -59,7 +59,7 @@ pub fn relabel(random: &mut Random, tally: &mut Tally) -> Compared {
     let reference = reference::relabel(s0, s1, *root, before.rooms());
     let after = before.after(&reference.as_ref().map(Some));
     let expected = reference.as_ref().map(|written| written.word.len()).map_err(|number| *number);
-    tally.compare("relabel", outcome(&reference, accepted), &(library, lists), &(expected, after), &(&lent, &before))
+    counts.compare("relabel", outcome(&reference, accepted), &(library, lists), &(expected, after), &(&lent, &before))
 }
 
 /// A second diagram to compare with the first: renamed, with its root or another, mirrored, with two white vertices changed, or any other.
@@ -94,7 +94,7 @@ fn sided(sided: Sided) -> (u16, u8) {
 type Answer = Result<bool, (u16, u8)>;
 
 fn compare(
-    random: &mut Random, tally: &mut Tally, name: &'static str, mix: Mix,
+    random: &mut Random, counts: &mut OutcomeCounts, name: &'static str, mix: Mix,
     library: fn(&Diagram, &Diagram) -> Result<bool, Sided>, reference: fn(reference::Lent, reference::Lent) -> Answer,
 ) -> Compared {
     let mut first = any(random, mix);
@@ -111,30 +111,30 @@ fn compare(
         Ok(same) => Outcome::Accepted(if same { "same" } else { "different" }),
         Err((number, side)) => Outcome::Refused(side, number),
     };
-    tally.compare(name, outcome, &library, &reference, &(&first, &second))
+    counts.compare(name, outcome, &library, &reference, &(&first, &second))
 }
 
-pub fn compare_rooted(random: &mut Random, tally: &mut Tally) -> Compared {
+pub fn compare_rooted(random: &mut Random, counts: &mut OutcomeCounts) -> Compared {
     let library = |a: &Diagram, b: &Diagram| kaldvemir::compare_rooted(&a.s0, &a.s1, a.root, &b.s0, &b.s1, b.root);
-    compare(random, tally, "compare rooted", EVERY, library, reference::compare_rooted)
+    compare(random, counts, "compare rooted", EVERY, library, reference::compare_rooted)
 }
 
-pub fn compare_unrooted(random: &mut Random, tally: &mut Tally) -> Compared {
+pub fn compare_unrooted(random: &mut Random, counts: &mut OutcomeCounts) -> Compared {
     let library = |a: &Diagram, b: &Diagram| kaldvemir::compare_unrooted(&a.s0, &a.s1, a.root, &b.s0, &b.s1, b.root);
-    compare(random, tally, "compare unrooted", FEW_LARGE, library, reference::compare_unrooted)
+    compare(random, counts, "compare unrooted", FEW_LARGE, library, reference::compare_unrooted)
 }
 
-pub fn symmetries(random: &mut Random, tally: &mut Tally) -> Compared {
+pub fn symmetries(random: &mut Random, counts: &mut OutcomeCounts) -> Compared {
     let lent = lent(random, FEW_LARGE);
     let Diagram { s0, s1, root } = &lent;
     let library = kaldvemir::symmetries(s0, s1, *root).map_err(Refusal::number);
     let reference = reference::symmetries(s0, s1, *root);
     let outcome = outcome(&reference, |count| if *count == 1 { "one" } else { "more" });
-    tally.compare("symmetries", outcome, &library, &reference, &lent)
+    counts.compare("symmetries", outcome, &library, &reference, &lent)
 }
 
 /// Half the diagrams get the least of some words as their root's, so that many are kept.
-pub fn kept(random: &mut Random, tally: &mut Tally) -> Compared {
+pub fn kept(random: &mut Random, counts: &mut OutcomeCounts) -> Compared {
     let mut lent = lent(random, FEW_LARGE);
     if random.percent(40) && reference::check(&lent.s0, &lent.s1, 1).is_ok() {
         let n = lent.s0.len();
@@ -143,10 +143,10 @@ pub fn kept(random: &mut Random, tally: &mut Tally) -> Compared {
     }
     let library = kaldvemir::kept(&lent.s0, &lent.s1, lent.root).map_err(Refusal::number);
     let reference = reference::kept(&lent.s0, &lent.s1, lent.root);
-    tally.compare("kept", outcome(&reference, yes_or_no), &library, &reference, &lent)
+    counts.compare("kept", outcome(&reference, yes_or_no), &library, &reference, &lent)
 }
 
-pub fn invariants(random: &mut Random, tally: &mut Tally) -> Compared {
+pub fn invariants(random: &mut Random, counts: &mut OutcomeCounts) -> Compared {
     let lent = lent(random, EVERY);
     let Diagram { s0, s1, root } = &lent;
     let library = kaldvemir::invariants(s0, s1, *root).map_err(Refusal::number).map(|given| reference::Invariants {
@@ -157,10 +157,10 @@ pub fn invariants(random: &mut Random, tally: &mut Tally) -> Compared {
         level: given.level.into(),
     });
     let reference = reference::invariants(s0, s1, *root);
-    tally.compare("invariants", outcome(&reference, accepted), &library, &reference, &lent)
+    counts.compare("invariants", outcome(&reference, accepted), &library, &reference, &lent)
 }
 
-pub fn read_word(random: &mut Random, tally: &mut Tally) -> Compared {
+pub fn read_word(random: &mut Random, counts: &mut OutcomeCounts) -> Compared {
     let word = any_word(random);
     let n = reference::read_word(&word, [usize::MAX; 2]).map_or(random.below(30), |(s0, _)| s0.len());
     let rooms = [room(random, n), room(random, n)];
@@ -172,11 +172,11 @@ pub fn read_word(random: &mut Random, tally: &mut Tally) -> Compared {
         Ok((t0, t1)) => (Ok(t0.len()), (overwritten(&before.0, t0), overwritten(&before.1, t1))),
         Err(number) => (Err(*number), before.clone()),
     };
-    tally.compare("read word", outcome(&reference, accepted), &(library, (s0, s1)), &(size, after), &(&word, &before))
+    counts.compare("read word", outcome(&reference, accepted), &(library, (s0, s1)), &(size, after), &(&word, &before))
 }
 
 /// The list handed back is the very list that was lent, not only an equal one; both stand in one list, so that also empty ones are told apart.
-pub fn lesser(random: &mut Random, tally: &mut Tally) -> Compared {
+pub fn lesser(random: &mut Random, counts: &mut OutcomeCounts) -> Compared {
     let (first, second) = pair(random);
     let both = [&first[..], &[0], &second[..]].concat();
     let (a, b) = (&both[..first.len()], &both[first.len() + 1..]);
@@ -184,10 +184,10 @@ pub fn lesser(random: &mut Random, tally: &mut Tally) -> Compared {
     let library = (std::ptr::eq(given, a), std::ptr::eq(given, b));
     let second_is_less = reference::second_is_less(a, b);
     let outcome = Outcome::Accepted(if second_is_less { "second" } else { "first" });
-    tally.compare("lesser", outcome, &library, &(!second_is_less, second_is_less), &(&first, &second))
+    counts.compare("lesser", outcome, &library, &(!second_is_less, second_is_less), &(&first, &second))
 }
 
-pub fn letters(random: &mut Random, tally: &mut Tally) -> Compared {
+pub fn letters(random: &mut Random, counts: &mut OutcomeCounts) -> Compared {
     let word = if random.percent(80) { any_word(random) } else { pair(random).0 };
     let length = reference::letters(&word, usize::MAX).map_or(random.below(30), |letters| letters.len());
     let room = room(random, length);
@@ -199,5 +199,5 @@ pub fn letters(random: &mut Random, tally: &mut Tally) -> Compared {
         Ok(letters) => (Ok(letters.len()), overwritten(&before, letters)),
         Err(number) => (Err(*number), before.clone()),
     };
-    tally.compare("letters", outcome(&reference, accepted), &(library, out), &(length, after), &(&word, &before))
+    counts.compare("letters", outcome(&reference, accepted), &(library, out), &(length, after), &(&word, &before))
 }

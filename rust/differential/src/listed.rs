@@ -3,7 +3,7 @@ use crate::diagrams::{any, damage, Diagram, Mix};
 use crate::given::{accepted, outcome};
 use crate::lists::{overwritten, Lists};
 use crate::random::Random;
-use crate::tally::{Compared, Tally};
+use crate::outcomes::{Compared, OutcomeCounts};
 use kaldvemir::Refusal;
 
 /// A size, mostly from 1 to 50.
@@ -11,14 +11,14 @@ fn size(random: &mut Random) -> u64 {
     if random.percent(75) { random.between(1, 50) } else { random.near(&[0, 1, 50]) }
 }
 
-pub fn count(random: &mut Random, tally: &mut Tally) -> Compared {
+pub fn count(random: &mut Random, counts: &mut OutcomeCounts) -> Compared {
     let size = size(random);
     let library = kaldvemir::count(size).map_err(Refusal::number);
     let reference = reference::count(size);
-    tally.compare("count", outcome(&reference, accepted), &library, &reference, &size)
+    counts.compare("count", outcome(&reference, accepted), &library, &reference, &size)
 }
 
-pub fn diagram_at(random: &mut Random, tally: &mut Tally) -> Compared {
+pub fn diagram_at(random: &mut Random, counts: &mut OutcomeCounts) -> Compared {
     let size = size(random);
     let count = reference::count(size).unwrap_or(1000);
     let position = if random.percent(70) { random.between(1, count) } else { random.near(&[0, 1, count]) };
@@ -28,10 +28,10 @@ pub fn diagram_at(random: &mut Random, tally: &mut Tally) -> Compared {
     let reference = reference::diagram_at(size, position, before.rooms());
     let after = before.after(&reference.as_ref().map(Some));
     let length = reference.as_ref().map(|written| written.word.len()).map_err(|number| *number);
-    tally.compare("diagram at", outcome(&reference, accepted), &(library, lists), &(length, after), &(size, position, &before))
+    counts.compare("diagram at", outcome(&reference, accepted), &(library, lists), &(length, after), &(size, position, &before))
 }
 
-pub fn position(random: &mut Random, tally: &mut Tally) -> Compared {
+pub fn position(random: &mut Random, counts: &mut OutcomeCounts) -> Compared {
     let mut lent = any(random, Mix { middling: 150, large: 10 });
     if random.percent(50) {
         damage(random, &mut lent);
@@ -39,10 +39,10 @@ pub fn position(random: &mut Random, tally: &mut Tally) -> Compared {
     let Diagram { s0, s1, root } = &lent;
     let library = kaldvemir::position(s0, s1, *root).map_err(Refusal::number);
     let reference = reference::position(s0, s1, *root);
-    tally.compare("position", outcome(&reference, accepted), &library, &reference, &lent)
+    counts.compare("position", outcome(&reference, accepted), &library, &reference, &lent)
 }
 
-pub fn plain_walk(random: &mut Random, tally: &mut Tally) -> Compared {
+pub fn plain_walk(random: &mut Random, counts: &mut OutcomeCounts) -> Compared {
     let size = if random.percent(80) { random.between(1, 9) } else { random.near(&[0, 1, 9]) };
     let room = match random.below(8) {
         0 => 1023,
@@ -59,5 +59,5 @@ pub fn plain_walk(random: &mut Random, tally: &mut Tally) -> Compared {
         Ok(written) => (Ok(written.len()), overwritten(&before, written)),
         Err(number) => (Err(*number), before.clone()),
     };
-    tally.compare("plain walk", outcome(&reference, accepted), &(library, words), &(length, after), &(size, &before))
+    counts.compare("plain walk", outcome(&reference, accepted), &(library, words), &(length, after), &(size, &before))
 }

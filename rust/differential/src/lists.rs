@@ -53,10 +53,10 @@ fn damage(random: &mut Random, items: &mut Vec<u16>) {
         5 => items.push(item),
         6 if !items.is_empty() => items[0] = item,
         7 if random.percent(50) => {
-            let length = random.pick(&[1024, 1025, 1026, 1027, 1300, 65_536, 65_540]);
+            let length = random.choose(&[1024, 1025, 1026, 1027, 1300, 65_536, 65_540]);
             items.resize(length, item);
         }
-        8 if place < items.len() => items[place] = items[place].wrapping_add(random.pick(&[1, u16::MAX])),
+        8 if place < items.len() => items[place] = items[place].wrapping_add(random.choose(&[1, u16::MAX])),
         9 if random.percent(10) => items.clear(),
         _ if place < items.len() => items[place] = item,
         _ => (),
@@ -75,7 +75,7 @@ pub fn pair(random: &mut Random) -> (Vec<u16>, Vec<u16>) {
         2 if length > 0 => second[random.below(length)] = random.bits() as u16,
         3 if length > 0 => {
             let place = random.below(length);
-            second[place] = second[place].wrapping_add(random.pick(&[1, u16::MAX]));
+            second[place] = second[place].wrapping_add(random.choose(&[1, u16::MAX]));
         }
         _ => {
             let length = random.below(12);

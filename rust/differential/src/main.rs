@@ -13,10 +13,11 @@ mod diagrams;
 mod given;
 mod listed;
 mod lists;
+mod outcomes;
 mod random;
 mod runs;
-mod tally;
 
+use outcomes::{Compared, OutcomeCounts};
 use random::Random;
 use std::panic::{catch_unwind, AssertUnwindSafe};
 use std::process::exit;
@@ -24,14 +25,13 @@ use std::sync::atomic::{AtomicUsize, Ordering};
 use std::sync::Mutex;
 use std::time::Instant;
 use std::{env, thread};
-use tally::{Compared, Tally};
 
 const SHORT: u64 = 50_000;
 const FULL: u64 = 1_000_000;
 /// How many inputs of its operations a piece of work compares.
 const PIECE: u64 = 5_000;
 
-type Comparison = fn(&mut Random, &mut Tally) -> Compared;
+type Comparison = fn(&mut Random, &mut OutcomeCounts) -> Compared;
 
 /// Each comparison with the operations it compares.
 const COMPARISONS: [(Comparison, &[&str]); 22] = [
@@ -63,30 +63,30 @@ const COMPARISONS: [(Comparison, &[&str]); 22] = [
 const WHOLE: u16 = 14;
 
 /// A piece of work, by its number: first the whole runs, by steps and in blocks, then every comparison in turn.
-fn piece(number: usize, seed: u64, tally: &mut Tally) -> Compared {
+fn piece(number: usize, seed: u64, counts: &mut OutcomeCounts) -> Compared {
     let mut random = Random::new(seed, number as u64);
     if number < usize::from(WHOLE) {
         let size = number as u16 + 1;
-        runs::whole(size, &mut random, tally)?;
-        return blocks::whole(size, &mut random, tally);
+        runs::whole(size, &mut random, counts)?;
+        return blocks::whole(size, &mut random, counts);
     }
     let (comparison, operations) = COMPARISONS[(number - usize::from(WHOLE)) % COMPARISONS.len()];
-    while operations.iter().any(|operation| tally.inputs(operation) < PIECE) {
-        comparison(&mut random, tally)?;
+    while operations.iter().any(|operation| counts.inputs(operation) < PIECE) {
+        comparison(&mut random, counts)?;
     }
     Ok(())
 }
 
 /// Does piece after piece until none is left; at the first difference, or where the binding finds a fault, prints it and ends the program.
-fn work(pieces: usize, seed: u64, next: &AtomicUsize, total: &Mutex<Tally>) {
+fn work(pieces: usize, seed: u64, next: &AtomicUsize, total: &Mutex<OutcomeCounts>) {
     loop {
         let number = next.fetch_add(1, Ordering::Relaxed);
         if number >= pieces {
             return;
         }
-        let mut tally = Tally::default();
-        match catch_unwind(AssertUnwindSafe(|| piece(number, seed, &mut tally))) {
-            Ok(Ok(())) => total.lock().expect("no thread panics holding it").add(tally),
+        let mut counts = OutcomeCounts::default();
+        match catch_unwind(AssertUnwindSafe(|| piece(number, seed, &mut counts))) {
+            Ok(Ok(())) => total.lock().expect("no thread panics holding it").add(counts),
             Ok(Err(difference)) => fail(&format!(
                 "DIFFERENCE in {}: seed {seed}, piece {number}\ninput: {}\nlibrary: {}\nreference: {}",
                 difference.operation, difference.input, difference.library, difference.reference
@@ -131,7 +131,7 @@ fn main() {
     let started = Instant::now();
     println!("seed {seed}, {inputs} inputs of every operation at least, {cores} threads");
     let pieces = usize::from(WHOLE) + COMPARISONS.len() * inputs.div_ceil(PIECE) as usize;
-    let (next, total) = (AtomicUsize::new(0), Mutex::new(Tally::default()));
+    let (next, total) = (AtomicUsize::new(0), Mutex::new(OutcomeCounts::default()));
     thread::scope(|scope| {
         for _ in 0..cores {
             scope.spawn(|| work(pieces, seed, &next, &total));

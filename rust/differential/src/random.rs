@@ -35,7 +35,7 @@ impl Random {
         self.below(100) < yes
     }
 
-    pub fn pick<T: Copy>(&mut self, choices: &[T]) -> T {
+    pub fn choose<T: Copy>(&mut self, choices: &[T]) -> T {
         choices[self.below(choices.len())]
     }
 
@@ -46,22 +46,22 @@ impl Random {
     }
 
     /// A number of up to 64 bits, every width as likely.
-    pub fn wide(&mut self) -> u64 {
+    pub fn any_width(&mut self) -> u64 {
         let width = self.below(65) as u32;
         self.bits().checked_shr(64 - width).unwrap_or(0)
     }
 
     /// A number near one of the edges, or the same in its low 8, 16 or 32 bits alone, or any number.
     pub fn near(&mut self, edges: &[u64]) -> u64 {
-        let edge = self.pick(edges);
+        let edge = self.choose(edges);
         match self.below(8) {
             0 => edge.wrapping_sub(1),
             1 | 2 => edge,
             3 => edge.wrapping_add(1),
             4 => edge.wrapping_add(self.between(0, 4)).wrapping_sub(2),
-            5 => edge.wrapping_add(self.pick(&[1 << 8, 1 << 16, 1 << 32, 1 << 48, 1 << 63])),
-            6 => self.pick(&[0, u64::MAX, 1 << 63, u32::MAX.into(), u16::MAX.into()]),
-            _ => self.wide(),
+            5 => edge.wrapping_add(self.choose(&[1 << 8, 1 << 16, 1 << 32, 1 << 48, 1 << 63])),
+            6 => self.choose(&[0, u64::MAX, 1 << 63, u32::MAX.into(), u16::MAX.into()]),
+            _ => self.any_width(),
         }
     }
 

@@ -2,7 +2,7 @@
 use crate::given::{accepted, outcome};
 use crate::lists::Lists;
 use crate::random::Random;
-use crate::tally::{Compared, Difference, Tally};
+use crate::outcomes::{Compared, Difference, OutcomeCounts};
 use kaldvemir::Refusal;
 use reference::{Run, Written};
 
@@ -14,11 +14,11 @@ pub fn reference_run(run: &kaldvemir::Run) -> Run {
     Run { size: run.size, stage: run.stage, length: run.length, items: run.items }
 }
 
-pub fn begin(random: &mut Random, tally: &mut Tally) -> Compared {
+pub fn begin(random: &mut Random, counts: &mut OutcomeCounts) -> Compared {
     let size = if random.percent(70) { random.between(1, 50) } else { random.near(&[0, 1, 50]) };
     let library = kaldvemir::Run::begin(size).map_err(Refusal::number).map(|run| reference_run(&run));
     let reference = Run::begin(size);
-    tally.compare("begin", outcome(&reference, accepted), &library, &reference, &size)
+    counts.compare("begin", outcome(&reference, accepted), &library, &reference, &size)
 }
 
 /// A beginning at a position, often near the ends of the listing, and a few steps of an accepted one.
@@ -40,7 +40,7 @@ pub fn begin_at(random: &mut Random, tally: &mut Tally) -> Compared {
 }
 
 /// One step of both from the same run: compares the answers, the runs and the lists after it, and returns what an accepted step answered.
-fn step(run: &mut Run, before: &Lists, tally: &mut Tally) -> Result<Option<Option<Written>>, Box<Difference>> {
+fn step(run: &mut Run, before: &Lists, counts: &mut OutcomeCounts) -> Result<Option<Option<Written>>, Box<Difference>> {
     let input = (run.clone(), before);
     let (mut other, mut lists) = (library_run(run), before.clone());
     let library = other.step(&mut lists.s0, &mut lists.s1, &mut lists.word).map_err(Refusal::number);
@@ -48,19 +48,19 @@ fn step(run: &mut Run, before: &Lists, tally: &mut Tally) -> Result<Option<Optio
     let after = before.after(&reference.as_ref().map(Option::as_ref));
     let length = reference.as_ref().map(|written| written.as_ref().map(|written| written.word.len())).map_err(|number| *number);
     let kind = outcome(&reference, |written| if written.is_some() { "diagram" } else { "end" });
-    tally.compare("step", kind, &(library, reference_run(&other), lists), &(length, run.clone(), after), &input)?;
+    counts.compare("step", kind, &(library, reference_run(&other), lists), &(length, run.clone(), after), &input)?;
     Ok(reference.ok())
 }
 
 /// A few steps from anywhere, with damage now and then; a damaged run that is still valid goes on.
-pub fn steps(random: &mut Random, tally: &mut Tally) -> Compared {
+pub fn steps(random: &mut Random, counts: &mut OutcomeCounts) -> Compared {
     let mut run = anywhere(random, 40);
     for _ in 0..1 + random.below(6) {
         if random.percent(25) {
             damage(random, &mut run);
         }
         let lists = Lists::any(random, run.size.min(60).into());
-        step(&mut run, &lists, tally)?;
+        step(&mut run, &lists, counts)?;
     }
     Ok(())
 }
@@ -91,12 +91,12 @@ pub fn damage(random: &mut Random, run: &mut Run) {
         5 => run.items[random.below(51)] = random.near(&[0, 3]) as u16,
         6 => run.items[random.below(used + 1)] = random.below(8) as u16,
         // The item that ends the word lies outside it, or one more is in it.
-        _ => run.length = run.length.wrapping_add(random.pick(&[1, u16::MAX])),
+        _ => run.length = run.length.wrapping_add(random.choose(&[1, u16::MAX])),
     }
 }
 
 /// A whole run of a size against the listing, with refused steps and steps of damaged copies in between, and to "end" more than once.
-pub fn whole(size: u16, random: &mut Random, tally: &mut Tally) -> Compared {
+pub fn whole(size: u16, random: &mut Random, counts: &mut OutcomeCounts) -> Compared {
     let n = usize::from(size);
     let mut run = Run::begin(size.into()).expect("a size in range");
     let mut given = vec![];
@@ -106,10 +106,10 @@ pub fn whole(size: u16, random: &mut Random, tally: &mut Tally) -> Compared {
             let mut copy = run.clone();
             damage(random, &mut copy);
             let lists = Lists::any(random, n);
-            step(&mut copy, &lists, tally)?;
+            step(&mut copy, &lists, counts)?;
         }
         let lists = Lists::any(random, n);
-        match step(&mut run, &lists, tally)? {
+        match step(&mut run, &lists, counts)? {
             Some(Some(written)) => given.push(written.word),
             Some(None) => ends += 1,
             None => (),

@@ -3,7 +3,7 @@ use crate::answers::{answered, given, left, length, UNWRITTEN};
 use crate::raw;
 use crate::Refusal;
 
-/// A run through the diagrams of a size. Its fields are open, so that it can be kept and taken up again; a step refuses one that is not sound.
+/// A run through the diagrams of a size. Its fields are open, so that it can be kept and taken up again; a step refuses one that is not valid.
 #[repr(C)]
 #[derive(Clone, Debug, PartialEq, Eq, Hash)]
 pub struct Run {

@@ -3,7 +3,7 @@ use borrow.Author.Needs.{needs}
 use mathlib.Core.Path.{refl}
 use mathlib.Core.List.{_∷_, []}
 use Rattle.listing_successor_endings.specs.Endings.{leastEnding}
-use Rattle.listing_successor_endings.proofs.Padding.{sharing-by}
+use Rattle.listing_successor_endings.proofs.Padding.{shared-word-is}
 use Rattle.listing_successor_states.proofs.States.{start-small}
 use Rattle.listing_successor_endings.proofs.Endings.{rooted-room}
 use Rattle.listing_successor_endings.proofs.least_word.Statement.{statement}
@@ -21,7 +21,7 @@ append-event-requires c κs =
 returns : tie.Need-returns
 returns c =
     let l = c .before .before .state-after-first .result in
-    rw (← (c .before .before .state-after-first .ensures)) (sharing-by 0 (c .before .before .before .args .root ∷ leastEnding (l .height) (l .free)) _ _ (c .append-event .ensures [] refl refl))
+    rw (← (c .before .before .state-after-first .ensures)) (shared-word-is 0 (c .before .before .before .args .root ∷ leastEnding (l .height) (l .free)) _ _ (c .append-event .ensures [] refl refl))
 
 pub least-word-spec : {M : Type 1} → statement M
 least-word-spec = tie.close (tie.spec state-after-first-requires append-event-requires returns)

@@ -6,7 +6,7 @@ use native.Mathlib.Omega.{arith}
 use Prim.Native.Nat.{_≤_}
 use lib.ListN.{length, take}
 use lib.Seq.{length-take-le}
-use Rattle.listing_successor_endings.proofs.Padding.{padded-over, sharing-by}
+use Rattle.listing_successor_endings.proofs.Padding.{padded-over, shared-word-is}
 use Rattle.listing_successor_endings.specs.Endings.{leastEnding}
 use Rattle.listing_successor_endings.proofs.raise_at.Statement.{statement}
 use Rattle.listing_successor_endings.proofs.raise_at.Tie as tie
@@ -34,7 +34,7 @@ returns c =
     let a = c .before .before .before .before .before .before .before .args in
     let e = length-take-le (a .place) (a .word .now) (p .0) in
     let l : length (take (a .place) (a .word .now)) ≤ 51 = omega arith in
-    sharing-by (a .place) (take (a .place) (a .word .now) ++ (a .event ∷ leastEnding (a .height) (a .free))) _ _ (c .append-event .ensures (take (a .place) (a .word .now)) (padded-over (take (a .place) (a .word .now)) _ l (c .before .before .before .fill .ensures)) (sym e))
+    shared-word-is (a .place) (take (a .place) (a .word .now) ++ (a .event ∷ leastEnding (a .height) (a .free))) _ _ (c .append-event .ensures (take (a .place) (a .word .now)) (padded-over (take (a .place) (a .word .now)) _ l (c .before .before .before .fill .ensures)) (sym e))
 
 pub raise-at-spec : {M : Type 1} → statement M
 raise-at-spec =

@@ -27,7 +27,7 @@ fn forks(h: usize, f: usize) -> u64 {
 }
 
 #[inline]
-fn buds(h: usize, f: usize) -> u64 {
+fn singles(h: usize, f: usize) -> u64 {
     if f >= 1 { WAYS[h][f - 1] } else { 0 }
 }
 
@@ -64,11 +64,11 @@ fn choose(h: usize, f: usize, mut place: u64) -> (u16, usize, usize, u64) {
         return (1, h + 2, f - 3, place);
     }
     place -= forks;
-    let buds = buds(h, f);
-    if place < buds {
+    let singles = singles(h, f);
+    if place < singles {
         return (2, h, f - 1, place);
     }
-    place -= buds;
+    place -= singles;
     let block = WAYS[h - 1][f];
     (3 + (place / block) as u16, h - 1, f, place % block)
 }
@@ -104,7 +104,7 @@ fn rank(n: usize, word: &[u16]) -> u64 {
                 f -= 1;
             }
             _ => {
-                place += WAYS[h][f] + forks(h, f) + buds(h, f) + (item as u64 - 3) * WAYS[h - 1][f];
+                place += WAYS[h][f] + forks(h, f) + singles(h, f) + (item as u64 - 3) * WAYS[h - 1][f];
                 h -= 1;
             }
         }

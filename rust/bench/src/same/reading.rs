@@ -70,7 +70,7 @@ impl Reader {
         match item {
             0 => Ok(Marks { used, height: height - 1 }),
             1 => self.fork(k, used, height),
-            2 => self.bud(k, used, height),
+            2 => self.single(k, used, height),
             _ => self.jump(k, item - 3, used, height),
         }
     }
@@ -91,7 +91,7 @@ impl Reader {
     }
 
     #[inline]
-    fn bud(&mut self, k: u16, used: u16, height: u16) -> Result<Marks, u16> {
+    fn single(&mut self, k: u16, used: u16, height: u16) -> Result<Marks, u16> {
         if used as usize + 1 > MAX_SIZE {
             return Err(24);
         }

@@ -1,6 +1,6 @@
 //! The labelling of a diagram: relabel and kept.
 use super::check::{maps, next};
-use super::pending::Pile;
+use super::pending::Stack;
 use super::SMALL;
 use crate::table::MAX_SIZE;
 
@@ -19,7 +19,7 @@ fn relabel_in<const N: usize, const M: usize>(
 ) -> Result<usize, u16> {
     let n = s0.len();
     let (mut labels, mut x0, mut x1, mut items, mut room) = ([0; N], [0; N], [0; N], [0; M], [0; N]);
-    let pending = Pile::over(&mut room);
+    let pending = Stack::over(&mut room);
     let mut l = Labelling { labels: &mut labels, x0: &mut x0, x1: &mut x1, pending, given: 0 };
     items[0] = l.start(s0, root);
     let mut length = 1;
@@ -44,7 +44,7 @@ struct Labelling<'a, const N: usize> {
     labels: &'a mut [u16; N],
     x0: &'a mut [u16; N],
     x1: &'a mut [u16; N],
-    pending: Pile<'a, N>,
+    pending: Stack<'a, N>,
     given: u16,
 }
 
@@ -171,12 +171,12 @@ pub struct Rooting<'a, M, const N: usize> {
     s0: &'a [u16],
     s1: &'a [u16],
     marks: M,
-    pending: Pile<'a, N>,
+    pending: Stack<'a, N>,
 }
 
 impl<'a, M: Marks, const N: usize> Rooting<'a, M, N> {
     #[inline(always)]
-    pub fn new(s0: &'a [u16], s1: &'a [u16], pending: Pile<'a, N>) -> Self {
+    pub fn new(s0: &'a [u16], s1: &'a [u16], pending: Stack<'a, N>) -> Self {
         Rooting { s0, s1, marks: M::none(), pending }
     }
 
@@ -259,7 +259,7 @@ pub fn kept(s0: &[u16], s1: &[u16], root: u64) -> Result<bool, u16> {
 fn kept_in<M: Marks, const N: usize, const W: usize>(s0: &[u16], s1: &[u16], root: u16) -> Result<bool, u16> {
     let mut own = [0u16; W];
     let mut room = [0; N];
-    let mut rooting = Rooting::<M, N>::new(s0, s1, Pile::over(&mut room));
+    let mut rooting = Rooting::<M, N>::new(s0, s1, Stack::over(&mut room));
     own[0] = rooting.start(root);
     let mut length = 1;
     while let Some(item) = rooting.item() {

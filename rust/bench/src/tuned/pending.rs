@@ -2,16 +2,16 @@
 use super::SMALL;
 
 /// A stack from which any edge can be taken out, its top at the end.
-pub struct Pile<'a, const N: usize> {
+pub struct Stack<'a, const N: usize> {
     edges: &'a mut [u16; N],
     height: usize,
 }
 
-impl<'a, const N: usize> Pile<'a, N> {
+impl<'a, const N: usize> Stack<'a, N> {
     /// An empty stack.
     #[inline(always)]
     pub fn over(edges: &'a mut [u16; N]) -> Self {
-        Pile { edges, height: 0 }
+        Stack { edges, height: 0 }
     }
 
     #[inline(always)]

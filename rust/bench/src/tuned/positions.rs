@@ -1,7 +1,7 @@
 //! Diagram at a position, and position of a diagram, by a static table of counts.
 use super::check::{check, maps};
 use super::labelling::{Bits, Rooting};
-use super::pending::Pile;
+use super::pending::Stack;
 use super::spelling::Speller;
 use super::SMALL;
 use crate::table::{count_of, listed, MAX_LISTED, WAYS};
@@ -31,7 +31,7 @@ fn write_at(n: usize, mut place: u64, s0: &mut [u16], s1: &mut [u16], word: &mut
     }
     word[0] = root;
     let mut room = [0; SMALL];
-    let mut speller = Speller::new(s0, s1, Pile::over(&mut room), root);
+    let mut speller = Speller::new(s0, s1, Stack::over(&mut room), root);
     let mut length = 1;
     while speller.height() > 0 {
         let item = choose(speller.height() - 1, &mut free, &mut place);
@@ -59,12 +59,12 @@ fn choose(h: usize, free: &mut usize, place: &mut u64) -> u16 {
         *place -= forks;
     }
     if f >= 1 {
-        let buds = WAYS[h][f - 1];
-        if *place < buds {
+        let singles = WAYS[h][f - 1];
+        if *place < singles {
             *free = f - 1;
             return 2;
         }
-        *place -= buds;
+        *place -= singles;
     }
     let block = WAYS[h - 1][f];
     let d = *place / block;
@@ -85,7 +85,7 @@ pub fn position(s0: &[u16], s1: &[u16], root: u64) -> Result<u64, u16> {
 fn rank(s0: &[u16], s1: &[u16], root: u16) -> Option<u64> {
     let n = s0.len();
     let mut room = [0; SMALL];
-    let mut rooting = Rooting::<Bits, SMALL>::new(s0, s1, Pile::over(&mut room));
+    let mut rooting = Rooting::<Bits, SMALL>::new(s0, s1, Stack::over(&mut room));
     let (mut h, mut f, mut place) = (1, n - 1, 1);
     if rooting.start(root) == 1 {
         (h, f, place) = (3, n - 3, 1 + WAYS[1][n - 1]);
@@ -105,9 +105,9 @@ fn rank(s0: &[u16], s1: &[u16], root: u16) -> Option<u64> {
             }
             _ => {
                 let forks = if f >= 3 { WAYS[h + 2][f - 3] } else { 0 };
-                let buds = if f >= 1 { WAYS[h][f - 1] } else { 0 };
+                let singles = if f >= 1 { WAYS[h][f - 1] } else { 0 };
                 h -= 1;
-                place += WAYS[h + 1][f] + forks + buds + (item as u64 - 3) * WAYS[h][f];
+                place += WAYS[h + 1][f] + forks + singles + (item as u64 - 3) * WAYS[h][f];
             }
         }
     }

@@ -1,12 +1,12 @@
 //! Read word.
-use super::pending::Pile;
+use super::pending::Stack;
 use super::SMALL;
 use crate::table::MAX_SIZE;
 
 struct Reader<'a, const N: usize> {
     x0: &'a mut [u16; N],
     x1: &'a mut [u16; N],
-    pending: Pile<'a, N>,
+    pending: Stack<'a, N>,
     used: u16,
 }
 
@@ -24,7 +24,7 @@ pub fn read_word(word: &[u16], s0: &mut [u16], s1: &mut [u16]) -> Result<usize, 
 
 fn read_in<const N: usize>(word: &[u16], s0: &mut [u16], s1: &mut [u16]) -> Result<usize, u16> {
     let (mut x0, mut x1, mut room) = ([0; N], [0; N], [0; N]);
-    let mut reader = Reader { x0: &mut x0, x1: &mut x1, pending: Pile::over(&mut room), used: 0 };
+    let mut reader = Reader { x0: &mut x0, x1: &mut x1, pending: Stack::over(&mut room), used: 0 };
     match word[0] {
         0 => {
             reader.single();

@@ -1,18 +1,18 @@
 //! The diagram of a listed word, event by event, straight into the lists.
-use super::pending::Pile;
+use super::pending::Stack;
 use super::SMALL;
 
 pub struct Speller<'a> {
     s0: &'a mut [u16],
     s1: &'a mut [u16],
-    pending: Pile<'a, SMALL>,
+    pending: Stack<'a, SMALL>,
     used: u16,
 }
 
 impl<'a> Speller<'a> {
     /// The root: U, or T.
     #[inline(always)]
-    pub fn new(s0: &'a mut [u16], s1: &'a mut [u16], pending: Pile<'a, SMALL>, root: u16) -> Self {
+    pub fn new(s0: &'a mut [u16], s1: &'a mut [u16], pending: Stack<'a, SMALL>, root: u16) -> Self {
         let mut speller = Speller { s0, s1, pending, used: 0 };
         speller.pending.push(1);
         if root == 0 {
@@ -71,7 +71,7 @@ impl<'a> Speller<'a> {
 /// Writes the diagram of a whole word of a listed size.
 pub fn spell(word: &[u16], s0: &mut [u16], s1: &mut [u16]) {
     let mut room = [0; SMALL];
-    let mut speller = Speller::new(s0, s1, Pile::over(&mut room), word[0]);
+    let mut speller = Speller::new(s0, s1, Stack::over(&mut room), word[0]);
     for &item in &word[1..] {
         speller.event(item);
     }

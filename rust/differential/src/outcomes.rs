@@ -60,11 +60,11 @@ fn wanted(name: &str, answers: &[&'static str], refusals: &[u16]) -> Vec<Outcome
 }
 
 #[derive(Default)]
-pub struct Tally {
+pub struct OutcomeCounts {
     met: BTreeMap<(&'static str, Outcome), u64>,
 }
 
-impl Tally {
+impl OutcomeCounts {
     /// Compares two answers to an input and counts the outcome.
     pub fn compare<A: PartialEq + Debug>(
         &mut self, operation: &'static str, outcome: Outcome, library: &A, reference: &A, input: &dyn Debug,
@@ -81,7 +81,7 @@ impl Tally {
         self.met.iter().filter(|((name, _), _)| *name == operation).map(|(_, times)| times).sum()
     }
 
-    pub fn add(&mut self, other: Tally) {
+    pub fn add(&mut self, other: OutcomeCounts) {
         for (key, times) in other.met {
             *self.met.entry(key).or_default() += times;
         }
@@ -112,7 +112,7 @@ impl Tally {
 }
 
 /// The table: a line for each operation.
-impl fmt::Display for Tally {
+impl fmt::Display for OutcomeCounts {
     fn fmt(&self, out: &mut fmt::Formatter<'_>) -> fmt::Result {
         writeln!(out, "{:<17}{:>10}{:>10}  answers; refusals", "operation", "compared", "accepted")?;
         for (name, answers, refusals) in OPERATIONS {
