@@ -48,9 +48,9 @@ pub printed-many : (p n k : ℕ) → 48 < k → 0 ≡ rowsPrinted p n k
 unfolding rowsPrinted
 printed-many p n k h = rw (le-false k 48 h)
 
-pub printed-wide : (p n k : ℕ) → k ≤ 48 → 50 < n → 0 ≡ rowsPrinted p n k
+pub printed-large : (p n k : ℕ) → k ≤ 48 → 50 < n → 0 ≡ rowsPrinted p n k
 unfolding rowsPrinted
-printed-wide p n k h w = rw (le-true k 48 h, le-false n 50 w)
+printed-large p n k h w = rw (le-true k 48 h, le-false n 50 w)
 
 pub printed-far : (p n k : ℕ) → k ≤ 48 → n ≤ 50 → 18446744073709551616 ≤ p + k → 0 ≡ rowsPrinted p n k
 unfolding rowsPrinted
@@ -113,19 +113,19 @@ module _ {p n k : ℕ} {s0 s1 words lengths marks before : List ℕ} {count : �
   pub first-small : first ≤ 2400
   first-small = let h : i ≤ 48 = omega (arith, midway-fits .few) in omega (arith, mul-le-mul-right n h, midway-fits .narrow, M .first-is)
 
-  module _ (m x : ℕ) (w b v after : List ℕ) (end′ : ℕ) where
+  module _ (m x : ℕ) (w b v out′ : List ℕ) (end′ : ℕ) where
     -- one row more: its word w, its lists b and v
-    pub midway-more : m ≡ getD lengths i 0 → m ≤ 65535 → x ≡ one (getD marks i 0) → x ≤ 1 → length after ≡ length out
+    pub midway-more : m ≡ getD lengths i 0 → m ≤ 65535 → x ≡ one (getD marks i 0) → x ≤ 1 → length out′ ≡ length out
         → w ≡ part words item m → b ≡ part s0 first n → v ≡ part s1 first n
-        → ((a : Measured) × InvariantsPromise b v 1 a × (output after end′ ≡ putAll (linePieces (p + (i + 1)) w b v a (getD marks i 0)) (output out end)))
-        → RowsMidway p n k s0 s1 words lengths marks before count after end′ (kept + x) (first + n) (item + m) (i + 1)
+        → ((a : Measured) × InvariantsPromise b v 1 a × (output out′ end′ ≡ putAll (linePieces (p + (i + 1)) w b v a (getD marks i 0)) (output out end)))
+        → RowsMidway p n k s0 s1 words lengths marks before count out′ end′ (kept + x) (first + n) (item + m) (i + 1)
     unfolding keptAmong itemsBefore
     midway-more em sm ex sx el ew eb ev (a, q, e) = record {
       within = omega arith;
       count-is = M .count-is;
       long = el ∙ M .long;
       lines = rw (add-one i)
-          (more {o″ = output after end′} a (M .lines) (rw (← M .first-is, ← eb, ← ev) q)
+          (more {o″ = output out′ end′} a (M .lines) (rw (← M .first-is, ← eb, ← ev) q)
           (rw (← M .first-is, ← M .item-is, ← em, ← ew, ← eb, ← ev, ← add-one i) e));
       counted = rw (add-one i, M .counted, ex);
       few = let f = M .few in omega arith;

@@ -41,6 +41,6 @@ pub data RowsPut (p n : ℕ) (s0 s1 words lengths marks : List ℕ) : ℕ → Ou
 
 -- the position before the first row, the edges of a diagram, the rows and their lists; the buffer before; the buffer after, the place after the
 -- lines, and the number kept
-pub record PutRowsPromise (p n k : ℕ) (s0 s1 words lengths marks before after : List ℕ) (place kept : ℕ) : Type 0 where
-  pub lines : RowsPut p n s0 s1 words lengths marks (rowsPrinted p n k) (output before 0) (output after place)
+pub record PutRowsPromise (p n k : ℕ) (s0 s1 words lengths marks out out′ : List ℕ) (place kept : ℕ) : Type 0 where
+  pub lines : RowsPut p n s0 s1 words lengths marks (rowsPrinted p n k) (output out 0) (output out′ place)
   pub counted : kept ≡ keptAmong marks (rowsPrinted p n k)

@@ -11,8 +11,7 @@ ghost use Rattle.text_printing.specs.Printing.{output, putAll};
 ghost use Rattle.census_lines.specs.Lines.{linePieces};
 ghost use Rattle.census_rows.specs.Rows.{part, rowsPrinted, PutRowsPromise};
 
-// The most diagrams of a block. No line is longer than 1,024 bytes (15 digits, at most 51 items of three letters, two lists of 50 entries, five
-// numbers and the marks between), so that the lines of so many fit the 65,536 bytes that a caller writes at once.
+// The most diagrams of a block: the lists that hold one fit a caller's stack.
 pub const ROWS: usize = 48;
 
 // So many entries of a list from a place on; none where the list has not so many there.

@@ -1,6 +1,6 @@
 -- The tests, one after another.
 use native.Mathlib.Omega.{arith}
-use Rattle.census_rows.proofs.Rows.{printed-many, printed-wide, printed-far, printed-all}
+use Rattle.census_rows.proofs.Rows.{printed-many, printed-large, printed-far, printed-all}
 use borrow.Author.Needs.{needs}
 use Rattle.census_rows.proofs.rows_printed.Statement.{statement}
 use Rattle.census_rows.proofs.rows_printed.Tie as tie
@@ -9,7 +9,7 @@ returns : tie.Need-returns
 returns c = printed-many _ _ _ (omega arith)
 
 returns-2 : tie.Need-returns-2
-returns-2 c = printed-wide _ _ _ (omega arith) (omega arith)
+returns-2 c = printed-large _ _ _ (omega arith) (omega arith)
 
 sub-if3 : tie.Need-sub-if3
 sub-if3 c = search needs
