@@ -1,15 +1,12 @@
 -- The numbers that a listing leaves are those of its run: they fit 16 bits, and its size is the one that it had.
 use mathlib.Core.Path.{_≡_, refl, sym, _∙_, ap}
 use mathlib.Core.Logic.{inl, inr}
-use mathlib.Core.List.{List, _∷_}
-use Prim.Native.Nat.{ℕ, zero, suc, _+_, _≤_}
+use mathlib.Core.List.{List}
+use Prim.Native.Nat.{ℕ, _+_}
 use native.Mathlib.Omega.{arith}
-use lib.ListN.{length, getD}
-use Rattle.lists.specs.Ranges.{OneTo}
-use Rattle.listing.specs.Listing.{count}
-use Rattle.listing_ranking.proofs.Answers.{at-length}
+use lib.ListN.{length}
 use Rattle.run_answers.specs.declared.Run.{Run}
-use Rattle.run_steps.specs.Promises.{RunAt, RunFinished, runAfter}
+use Rattle.run_steps.specs.Promises.{RunAt}
 use Rattle.run_steps.proofs.Standing.{stands-size}
 use Rattle.run_blocks.specs.Promises.{RunAfterRows, ListPromise, ListMarkedPromise}
 use Rattle.run_blocks.proofs.Whole.{marked-lists}
@@ -18,29 +15,11 @@ use Rattle.run_blocks_answers.specs.declared.Listing.the-variants.{Rows, Refuse
 use Rattle.kaldvemir_layout_run.specs.Layout.{run-of, run-numbers}
 use Rattle.kaldvemir_layout_run.proofs.Rows.{run-again}
 use Rattle.kaldvemir_answers_run.specs.Runs.{list-numbers, FitsRows}
-
-pub record Fitting (l : List ℕ) (next : Run) : Type 0 where
-  pub stage-small : next .stage ≤ 2
-  pub length-small : next .length ≤ 51
-  pub size-same : next .size ≡ getD l 0 0
-
-over-fits : (l : List ℕ) (n : ℕ) (next : Run) → RunFinished n (run-of l) → next ≡ run-of l → Fitting l next
-over-fits l n next o e =
-    let f = e ∙ o .is in
-    record { stage-small = rw f (omega arith); length-small = rw f (omega arith); size-same = ap (λ (r : Run). r .size) e }
-
-at-fits : (l : List ℕ) (n q : ℕ) (next : Run) → OneTo 50 n → q ≤ count n → getD l 0 0 ≡ n → next ≡ runAfter n q → Fitting l next
-at-fits l n zero next b h s e = record { stage-small = rw e (omega arith); length-small = rw e (omega arith); size-same = rw (e, s) refl }
-at-fits l n (suc q) next b h s e =
-    let w = at-length n (suc q) (omega arith, h) in
-    record { stage-small = rw e (omega arith); length-small = rw e (omega arith); size-same = rw (e, s) refl }
+use Rattle.kaldvemir_rows.proofs.Fitting.{Fitting, over-fits, at-fits, fitting-numbers}
 
 gave-fits : (l : List ℕ) (n p rows k : ℕ) (next : Run) → RunAt n p (run-of l) → RunAfterRows n p rows k next → Fitting l next
 gave-fits l n p rows k next s (inl (a, h, e)) = at-fits l n (p + k) next (s .sized) h (stands-size n p (run-of l) s) e
 gave-fits l n p rows k next s (inr (a, h, e)) = record { stage-small = rw e (omega arith); length-small = rw e (omega arith); size-same = rw (e, stands-size n p (run-of l) s) refl }
-
-fitting-numbers : (l : List ℕ) (next : Run) → Fitting l next → getD l 0 0 ∷ next .stage ∷ next .length ∷ next .items ≡ run-numbers next
-fitting-numbers l next f = rw (f .size-same) refl
 
 rows-fit : (l : List ℕ) (rows k : ℕ) (next : Run) (a0 a1 aw al b0 b1 bw bl : List ℕ) → ListPromise (run-of l) rows a0 a1 aw al next b0 b1 bw bl (Rows k) → Fitting l next
 rows-fit l rows k next a0 a1 aw al b0 b1 bw bl (inl x) = over-fits l (x .0 .0) next (x .0 .1) (x .2)

@@ -11,6 +11,9 @@ ghost use Rattle.run_answers.specs.declared.Beginning.{Beginning};
 ghost use Rattle.run_answers.specs.declared.Stepping.{Stepping};
 ghost use Rattle.run_blocks.specs.Promises.{ListPromise, ListMarkedPromise};
 ghost use Rattle.run_blocks_answers.specs.declared.Listing.{Listing};
+ghost use Rattle.run_text.specs.Answers as text;
+ghost use Rattle.run_text.specs.Promises.{RowsPromise};
+ghost use Rattle.run_text.specs.declared.RowsAnswer.{RowsAnswer};
 ghost use Rattle.kaldvemir_answers.specs.Answers as answers;
 ghost use Rattle.kaldvemir_layout_run.specs.Layout.{run-of, run-numbers};
 ghost use Rattle.kaldvemir_layout_run.specs.Layout as layout;
@@ -114,4 +117,25 @@ pub extern "C" fn kaldvemir_list_marked(
     let answer = listed.answer;
     let next = listed.run;
     list_answer(answer, next, run, given)
+}
+
+#[no_mangle]
+pub extern "C" fn kaldvemir_rows(
+    run: &mut [u16; 54],
+    rows: u64,
+    bytes: &mut [u8],
+    given: &mut u64,
+    written: &mut u64,
+    kept: &mut u64,
+) -> u16
+    ensures { λ r. ⌜ ((a : RowsAnswer) × (next : Run)
+        × RowsPromise (run-of (now (run .entry))) rows (now (bytes .entry)) next (now (bytes .exit)) a
+        × (r ≡ text.rows-number a)
+        × (now (given .exit) ≡ text.rows-given a (now (given .entry)))
+        × (now (written .exit) ≡ text.rows-bytes a (now (written .entry)))
+        × (now (kept .exit) ≡ text.rows-kept a (now (kept .entry)))
+        × (now (run .exit) ≡ run-numbers next)) ⌝ }
+{
+    let answer = kaldvemir_rows::rows(run, rows, bytes);
+    kaldvemir_rows::rows_answer(answer, given, written, kept)
 }
