@@ -142,6 +142,7 @@ pub fn on_line(
         relabel|bLLN012|0 1 2;\
         release|FNN|ok;\
         report|R|A open|A complete;\
+        row|oNN|5;\
         run|8|A B C 2;\
         set run|9NNNL|ok;\
         set size|0N|ok;\

@@ -18,6 +18,7 @@
 //   count N                                        the number of diagrams of that size
 //   at N P [R0 R1 RW]                              S0 S1 WORD
 //   position S0 S1 ROOT                            its number
+//   row N P                                        the line of that position in the census of that size
 //   walk N [ROOM]                                  how many numbers, and the numbers
 //   begin N                                        ok
 //   begin-at N P                                   ok

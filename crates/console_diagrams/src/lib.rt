@@ -23,6 +23,7 @@ fn on_words(
         b'l' => words::lesser(list, entries_of(entries, values, 2), s0),
         b'm' => words::reached(list, bytes),
         b'n' => words::count(values[1]),
+        b'o' => words::row(values[1], values[2], bytes),
         b't' => words::letters(list, bytes),
         _ => words::walk(values[1], s0),
     }

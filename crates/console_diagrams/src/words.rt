@@ -3,6 +3,7 @@ use console_commands::arguments::marks_of;
 use console_replies::Reply;
 use console_replies::blocks::copy_into;
 use console_replies::chosen;
+use console_replies::done;
 use console_replies::error;
 use console_replies::listed;
 use console_replies::shown;
@@ -11,6 +12,8 @@ use kaldvemir::given::kaldvemir_all_reached;
 use kaldvemir::listed::kaldvemir_count;
 use kaldvemir::listed::kaldvemir_diagram_at;
 use kaldvemir::listed::kaldvemir_plain_walk;
+use kaldvemir::runs::kaldvemir_begin_at;
+use kaldvemir::runs::kaldvemir_rows;
 use kaldvemir::spelling::kaldvemir_lesser;
 use kaldvemir::spelling::kaldvemir_letters;
 use kaldvemir::spelling::kaldvemir_read_word;
@@ -69,4 +72,34 @@ pub fn diagram_at(
     let mut items: u64 = 0;
     let refusal = kaldvemir_diagram_at(size, position, s0, s1, word, &mut items);
     shown(refusal, size, items)
+}
+
+// The first row of a run, without its newline; where the run gives none, its position is above the count.
+fn first_row(run: &mut [u16; 54], bytes: &mut [u8]) -> Reply {
+    let mut given: u64 = 0;
+    let mut written: u64 = 0;
+    let mut kept: u64 = 0;
+    let refusal = kaldvemir_rows(run, 1, bytes, &mut given, &mut written, &mut kept);
+    if refusal != 0 {
+        return done(refusal);
+    }
+    if written == 0 {
+        return done(32);
+    }
+    listed(0, 0, [0, 0, 0, 0, written - 1])
+}
+
+// The row of a position of a size: the next one of the run that has given the diagrams before it. There are none before position 0, so that it stands
+// for a position above every count.
+pub fn row(size: u64, position: u64, bytes: &mut [u8]) -> Reply {
+    let mut run = [0u16; 54];
+    let mut before = u64::MAX;
+    if 0 < position {
+        before = position - 1;
+    }
+    let refusal = kaldvemir_begin_at(size, before, &mut run);
+    if refusal == 0 {
+        return first_row(&mut run, bytes);
+    }
+    done(refusal)
 }
