@@ -28,7 +28,7 @@ use Rattle.book.specs.declared.types.Committing.the-variants.{Committed}
 use Rattle.book.specs.declared.types.Reporting.the-variants.{Progress}
 use Rattle.book.specs.Shares.{first, last, next, ticket, finished, committed, complete, holder}
 use Rattle.book.specs.Valid.{among, valid}
-use Rattle.book.specs.Calls.{unless, open-number, open-answer, open-book, opened, entered, due, take-number, take-list, movedOn, commit-number, commit-answer, commit-book, report-answer}
+use Rattle.book.specs.Calls.{unless, open-number, open-answer, open-book, opened, entered, due, take-number, take-list, movedOn, movedTo, commit-number, commit-answer, commit-book, report-answer}
 use Rattle.book.specs.Taken.{TakePromise}
 use Rattle.book.specs.Holding.{ShareHolds}
 use Rattle.book.proofs.Partition.{share-of, held-in, share-once}
@@ -188,7 +188,7 @@ module _ (n k : ℕ) (N : OneTo 50 n) (K : OneTo 32 k) (calls : List Call) where
 
   -- a share that moves on, whether its ticket ends or not
   moved-on : (tick t : ℕ) → Stands b t (holder b t) → next (movedOn b tick (holder b t)) (holder b t) ≡ suc (next b (holder b t))
-  unfolding movedOn
+  unfolding movedOn movedTo
   moved-on tick t T = go (finished (entered b tick (b .issued) j (suc (next b j)) (ticket b j) (at (b .expiry) j)) j)
     where
       j : ℕ

@@ -13,7 +13,7 @@ use Rattle.lists.specs.Ranges.{OneTo}
 use Rattle.lists.proofs.Lists.{at-put-same}
 use Rattle.book.specs.declared.types.Book.{Book}
 use Rattle.book.specs.Shares.{last, next, finished}
-use Rattle.book.specs.Calls.{entered, movedOn}
+use Rattle.book.specs.Calls.{entered, movedOn, movedTo}
 use Rattle.book.proofs.Counts.{last-small}
 use Rattle.book_entries.specs.Entries.{bookWith}
 use Rattle.book_decisions_commit.proofs.moved_on.Statement.{statement}
@@ -35,7 +35,7 @@ module _ (b : Book) (tick j : ℕ) (i : OneTo (length (b .next)) j) where
 
   moved-is : (ended : Bool) → ended ≡ ltb (last (b .size) (b .shares) j) (suc (next b j))
       → entered b tick (b .issued) j (suc (next b j)) (cond ended 0 (at (b .ticket) j)) (cond ended 0 (at (b .expiry) j)) ≡ movedOn b tick j
-  unfolding movedOn
+  unfolding movedOn movedTo
   moved-is true e = rw (further-finished ∙ sym e)
   moved-is false e = rw (further-finished ∙ sym e)
 
