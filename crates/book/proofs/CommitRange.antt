@@ -199,8 +199,7 @@ stretch-within tick t (suc m) b L G l =
     let u : suc (next b (holder b t)) ≤ last (b .size) (b .shares) (holder b t) = omega arith in
     let x = on-next b tick t L G u in
     let e = on-end b tick t L G u in
-    let q = stretch-within tick t m (on b tick t L G) (on-long b tick t L G u) (on-good b tick t L G u) (rw (x, e) (omega arith)) in
-    (
+    let q = stretch-within tick t m (on b tick t L G) (on-long b tick t L G u) (on-good b tick t L G u) (rw (x, e) (omega arith)) in (
       rw (commit-accepted b tick t L G, on-left b tick t L G u) (rw x at (q .0)),
       ap (λ (c : Book). commits-book c tick t (stretch (suc (next b (holder b t))) (suc m))) (on-left b tick t L G u) ∙ rw x at (q .1) ∙ on-moved b tick t L G u _ ∙ ap (movedTo b tick (holder b t)) (omega arith),
     )
@@ -214,7 +213,7 @@ stretch-past tick t (suc m) b L G l = rw (commit-accepted b tick t L G) (go (lt?
   where
     go : (last (b .size) (b .shares) (holder b t) < suc (next b (holder b t))) ⊎ (suc (next b (holder b t)) ≤ last (b .size) (b .shares) (holder b t))
         → (Long (on b tick t L G) → TicketGood (on b tick t L G) tick t → last (on b tick t L G .size) (on b tick t L G .shares) (holder (on b tick t L G) t) < next (on b tick t L G) (holder (on b tick t L G) t) + m
-          → commits-number (on b tick t L G) tick t (stretch (next (on b tick t L G) (holder (on b tick t L G) t)) (suc m)) ≡ 58)
+        → commits-number (on b tick t L G) tick t (stretch (next (on b tick t L G) (holder (on b tick t L G) t)) (suc m)) ≡ 58)
         → commits-number (commit-book b tick t (next b (holder b t))) tick t (stretch (suc (next b (holder b t))) (suc m)) ≡ 58
     go (inl u) r = let e : commit-number (commit-book b tick t (next b (holder b t))) tick t (suc (next b (holder b t))) ≡ 58 = unfold commit-number in (ended-number b tick t L G _ u) in rw e
     go (inr u) r =
