@@ -10,8 +10,6 @@ use book_shares::past;
 use book_standing::Asked;
 use book_standing::ask;
 ghost use mathlib.Core.Path.{_≡_};
-ghost use mathlib.Core.List.{List};
-ghost use Prim.Native.Nat.{ℕ};
 ghost use lib.Dec.{eqb, leb};
 ghost use lib.ListN.{length};
 ghost use Rattle.lists.specs.Lists.{at};

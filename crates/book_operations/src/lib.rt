@@ -79,7 +79,14 @@ pub fn commit_range_core(b: Book, tick: u64, ticket: u64, first: u64, last: u64)
 {
     let h = heads(b);
     let choice = book_decisions::commit_range(
-        h, &b.next, &b.ticket, &b.expiry, tick, ticket, first, last,
+        h,
+        &b.next,
+        &b.ticket,
+        &b.expiry,
+        tick,
+        ticket,
+        first,
+        last,
     );
     let answer = choice.answer;
     let change = choice.change;

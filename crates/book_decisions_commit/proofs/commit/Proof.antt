@@ -2,14 +2,14 @@
 use borrow.Author.Needs.{needs}
 use mathlib.Core.Path.{_≡_, refl, sym, _∙_}
 use mathlib.Core.Logic.{_≢_}
-use Prim.Native.Nat.{ℕ, _+_, _^_, _≤_, _<_}
+use Prim.Native.Nat.{ℕ, _+_}
 use native.Mathlib.Numerals.{add-one}
 use native.Mathlib.Omega.{arith}
 use Rattle.lists.specs.Ranges.{OneTo}
 use Rattle.lists.proofs.Tests.{eqb-eq, eqb-ne}
 use Rattle.book.specs.declared.types.Book.{Book}
 use Rattle.book.specs.declared.types.Committing.the-variants as committing
-use Rattle.book.specs.Shares.{last, next, holder}
+use Rattle.book.specs.Shares.{next, holder}
 use Rattle.book.specs.Calls.{due, movedTo, movedOn, ticket-number, commit-number, commit-answer, commit-book}
 use Rattle.book_standing.specs.declared.Asked.the-variants as asked
 use Rattle.book_standing.specs.Ask.{AskPromise}

@@ -1,8 +1,7 @@
 -- `commit_range` meets its contract: refused as `ask` says, or by the two ends of the range; otherwise the ticket's share goes on after the range.
 use borrow.Author.Needs.{needs}
-use mathlib.Core.Path.{_≡_, refl, sym, ap, _∙_}
-use mathlib.Core.Logic.{_≢_}
-use Prim.Native.Nat.{ℕ, suc, _+_, _^_, _≤_, _<_}
+use mathlib.Core.Path.{_≡_, sym, _∙_}
+use Prim.Native.Nat.{ℕ}
 use native.Mathlib.Numerals.{add-one}
 use native.Mathlib.Omega.{arith}
 use lib.Dec.{eqb, leb}
@@ -11,7 +10,7 @@ use Rattle.lists.specs.Ranges.{OneTo}
 use Rattle.book.specs.declared.types.Book.{Book}
 use Rattle.book.specs.declared.types.Committing.the-variants as committing
 use Rattle.book.specs.Shares.{last, next, holder}
-use Rattle.book.specs.Calls.{unless, due, movedTo, ticket-number, commit-range-number, commit-range-answer, commit-range-book, range-number}
+use Rattle.book.specs.Calls.{unless, due, ticket-number, commit-range-number, range-number}
 use Rattle.book.proofs.Counts.{last-small}
 use Rattle.book.proofs.ValidBook.{Long}
 use Rattle.book.proofs.CommitRange.{RangeGood, range-closed, range-refused, range-good}

@@ -1,9 +1,7 @@
 -- `range_number` meets its contract: the conditions in turn.
 use borrow.Author.Needs.{needs}
 use borrow.Author.Tests.{ltb-false}
-use mathlib.Core.Path.{_≡_, sym, _∙_}
-use mathlib.Core.Logic.{_≢_}
-use native.Mathlib.Omega.{arith}
+use mathlib.Core.Path.{sym, _∙_}
 use Rattle.lists.proofs.Tests.{eqb-eq, eqb-ne, le-true, le-false, ltb-true}
 use Rattle.book.specs.Shares.{last}
 use Rattle.book_decisions_commit_range.proofs.range_number.Statement.{statement}
