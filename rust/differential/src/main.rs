@@ -55,7 +55,7 @@ const COMPARISONS: [(Comparison, &[&str]); 21] = [
     (runs::begin, &["begin"]),
     (runs::steps, &["step"]),
     (books::open, &["open"]),
-    (books::life, &["claim", "take", "commit", "release", "report"]),
+    (books::life, &["claim", "take", "commit", "commit range", "release", "report"]),
 ];
 
 /// The largest size that is run through whole.
