@@ -89,6 +89,16 @@ module _ (b : Book) (tick t : ℕ) (L : Long b) (G : TicketGood b tick t) where
   abbrev end : ℕ
   end = last (b .size) (b .shares) (holder b t)
 
+  -- the position after the share's next one, its ticket and its expiry
+  abbrev after : ℕ
+  after = suc (next b (holder b t))
+
+  abbrev own : ℕ
+  own = at (b .ticket) (holder b t)
+
+  abbrev until : ℕ
+  until = at (b .expiry) (holder b t)
+
   pub good-in : OneTo 32 (holder b t)
   good-in = let x = G .stands .share-in in let y = G .is-valid .shares-in in omega arith
 
@@ -103,30 +113,30 @@ module _ (b : Book) (tick t : ℕ) (L : Long b) (G : TicketGood b tick t) where
   unfolding commit-number due
   commit-accepted = rw (good-number b tick t _ G, eqb-same (next b j))
 
-  commit-leaves : commit-book b tick t (next b j) ≡ movedTo b tick j (suc (next b j))
+  commit-leaves : commit-book b tick t (next b j) ≡ movedTo b tick j after
   unfolding commit-book movedOn
   commit-leaves = rw commit-accepted
 
   -- the book after a commit that is not the share's last
   abbrev on : Book
-  on = entered b tick (b .issued) j (suc (next b j)) (at (b .ticket) j) (at (b .expiry) j)
+  on = entered b tick (b .issued) j after own until
 
-  module _ (l : suc (next b j) ≤ end) where
+  module _ (l : after ≤ end) where
     on-valid : ValidBook on
-    on-valid = entered-valid b tick (b .issued) j (suc (next b j)) (at (b .ticket) j) (at (b .expiry) j) L good-in (G .is-valid) (kept-on b tick t G (suc (next b j)) (let y = good-from in omega arith) l)
+    on-valid = entered-valid b tick (b .issued) j after own until L good-in (G .is-valid) (kept-on b tick t G after (let y = good-from in omega arith) l)
 
     on-stands : Stands on t j
     on-stands = record {
       share-in = unfold entered in (G .stands .share-in);
       some = G .stands .some;
-      is = entered-ticket b tick (b .issued) j (suc (next b j)) (at (b .ticket) j) (at (b .expiry) j) L good-in ∙ G .stands .is;
+      is = entered-ticket b tick (b .issued) j after own until L good-in ∙ G .stands .is;
     }
 
     on-holder : holder on t ≡ j
     on-holder = holder-is on t j on-valid on-stands
 
     on-long : Long on
-    on-long = entered-long b tick (b .issued) j (suc (next b j)) (at (b .ticket) j) (at (b .expiry) j) L good-in
+    on-long = entered-long b tick (b .issued) j after own until L good-in
 
     on-good : TicketGood on tick t
     on-good = record {
@@ -134,27 +144,27 @@ module _ (b : Book) (tick t : ℕ) (L : Long b) (G : TicketGood b tick t) where
       later = unfold entered in (omega arith);
       tick-small = G .tick-small;
       stands = rw on-holder on-stands;
-      unlapsed = rw (on-holder, entered-expiry b tick (b .issued) j (suc (next b j)) (at (b .ticket) j) (at (b .expiry) j) L good-in) (G .unlapsed);
+      unlapsed = rw (on-holder, entered-expiry b tick (b .issued) j after own until L good-in) (G .unlapsed);
     }
 
-    on-next : next on (holder on t) ≡ suc (next b j)
-    on-next = rw on-holder (entered-next b tick (b .issued) j (suc (next b j)) (at (b .ticket) j) (at (b .expiry) j) L good-in)
+    on-next : next on (holder on t) ≡ after
+    on-next = rw on-holder (entered-next b tick (b .issued) j after own until L good-in)
 
     on-end : last (on .size) (on .shares) (holder on t) ≡ end
     on-end = rw on-holder (unfold entered in refl)
 
     on-left : commit-book b tick t (next b j) ≡ on
-    on-left = commit-leaves ∙ moved-within b tick j L good-in (suc (next b j)) l
+    on-left = commit-leaves ∙ moved-within b tick j L good-in after l
 
     on-twice : (p u e : ℕ) → entered on tick (on .issued) j p u e ≡ entered b tick (b .issued) j p u e
     unfolding entered
-    on-twice p u e = entered-twice b tick (b .issued) j (suc (next b j)) (at (b .ticket) j) (at (b .expiry) j) p u e
+    on-twice p u e = entered-twice b tick (b .issued) j after own until p u e
 
-    on-ticket : at (on .ticket) j ≡ at (b .ticket) j
-    on-ticket = entered-ticket b tick (b .issued) j (suc (next b j)) (at (b .ticket) j) (at (b .expiry) j) L good-in
+    on-ticket : at (on .ticket) j ≡ own
+    on-ticket = entered-ticket b tick (b .issued) j after own until L good-in
 
-    on-expiry : at (on .expiry) j ≡ at (b .expiry) j
-    on-expiry = entered-expiry b tick (b .issued) j (suc (next b j)) (at (b .ticket) j) (at (b .expiry) j) L good-in
+    on-expiry : at (on .expiry) j ≡ until
+    on-expiry = entered-expiry b tick (b .issued) j after own until L good-in
 
     -- the next commits leave the same, from this book as from the one before
     on-moved : (p : ℕ) → movedTo on tick (holder on t) p ≡ movedTo b tick j p
@@ -165,24 +175,24 @@ module _ (b : Book) (tick t : ℕ) (L : Long b) (G : TicketGood b tick t) where
 
         go : (end < p) ⊎ (p ≤ end) → movedTo on tick j p ≡ movedTo b tick j p
         go (inl u) = moved-past on tick j on-long good-in p (rw same-end u) ∙ on-twice p 0 0 ∙ sym (moved-past b tick j L good-in p u)
-        go (inr u) = moved-within on tick j on-long good-in p (rw same-end u) ∙ rw (on-ticket, on-expiry) (on-twice p (at (b .ticket) j) (at (b .expiry) j)) ∙ sym (moved-within b tick j L good-in p u)
+        go (inr u) = moved-within on tick j on-long good-in p (rw same-end u) ∙ rw (on-ticket, on-expiry) (on-twice p own until) ∙ sym (moved-within b tick j L good-in p u)
 
   -- the commit of the share's last position ends the ticket
-  ended-number : (rest : ℕ) → end < suc (next b j) → ticket-number (commit-book b tick t (next b j)) tick t rest ≡ 58
-  ended-number rest l = rw (commit-leaves, moved-past b tick j L good-in (suc (next b j)) l) (timely off tick t rest off-valid off-later (G .tick-small) ∙ rw off-holder)
+  ended-number : (rest : ℕ) → end < after → ticket-number (commit-book b tick t (next b j)) tick t rest ≡ 58
+  ended-number rest l = rw (commit-leaves, moved-past b tick j L good-in after l) (timely off tick t rest off-valid off-later (G .tick-small) ∙ rw off-holder)
     where
       off : Book
-      off = entered b tick (b .issued) j (suc (next b j)) 0 0
+      off = entered b tick (b .issued) j after 0 0
 
       off-valid : ValidBook off
-      off-valid = entered-valid b tick (b .issued) j (suc (next b j)) 0 0 L good-in (G .is-valid) (freed b tick t G (suc (next b j)) (let y = good-from in omega arith) (let y = good-next in omega arith))
+      off-valid = entered-valid b tick (b .issued) j after 0 0 L good-in (G .is-valid) (freed b tick t G after (let y = good-from in omega arith) (let y = good-next in omega arith))
 
       off-later : off .latest ≤ tick
       off-later = unfold entered in (omega arith)
 
       off-ticket : (i : ℕ) → OneTo (b .shares) i → (i ≡ j) ⊎ (i ≢ j) → ticket off i ≢ t
-      off-ticket i e (inl q) z = G .stands .some (sym z ∙ ap (ticket off) q ∙ entered-ticket b tick (b .issued) j (suc (next b j)) 0 0 L good-in)
-      off-ticket i e (inr q) z = ticket-distinct b t j (G .is-valid) (G .stands) i e q (sym (other-ticket b tick (b .issued) j (suc (next b j)) 0 0 L good-in i q) ∙ z)
+      off-ticket i e (inl q) z = G .stands .some (sym z ∙ ap (ticket off) q ∙ entered-ticket b tick (b .issued) j after 0 0 L good-in)
+      off-ticket i e (inr q) z = ticket-distinct b t j (G .is-valid) (G .stands) i e q (sym (other-ticket b tick (b .issued) j after 0 0 L good-in i q) ∙ z)
 
       off-holder : holder off t ≡ 0
       off-holder = nowhere-holder off t (unfold Nowhere entered in (inr (λ i e. off-ticket i e (same? i j))))
@@ -201,25 +211,37 @@ stretch-within tick t (suc m) b L G l =
     let e = on-end b tick t L G u in
     let q = stretch-within tick t m (on b tick t L G) (on-long b tick t L G u) (on-good b tick t L G u) (rw (x, e) (omega arith)) in (
       rw (commit-accepted b tick t L G, on-left b tick t L G u) (rw x at (q .0)),
-      ap (λ (c : Book). commits-book c tick t (stretch (suc (next b (holder b t))) (suc m))) (on-left b tick t L G u) ∙ rw x at (q .1) ∙ on-moved b tick t L G u _ ∙ ap (movedTo b tick (holder b t)) (omega arith),
+      ap (λ (c : Book). commits-book c tick t (stretch (after b tick t L G) (suc m))) (on-left b tick t L G u)
+          ∙ rw x at (q .1)
+          ∙ on-moved b tick t L G u _
+          ∙ ap (movedTo b tick (holder b t)) (omega arith),
     )
 
 -- some past the share's end: the first of these finds the ticket ended
-stretch-past : (tick t m : ℕ) (b : Book) → Long b → TicketGood b tick t → last (b .size) (b .shares) (holder b t) < next b (holder b t) + m
+abbrev PastEnd : ℕ → ℕ → ℕ → Book → Type 0
+PastEnd tick t m b =
+    Long b → TicketGood b tick t → last (b .size) (b .shares) (holder b t) < next b (holder b t) + m
     → commits-number b tick t (stretch (next b (holder b t)) (suc m)) ≡ 58
+
+past-step : (tick t m : ℕ) (b : Book) (L : Long b) (G : TicketGood b tick t) → last (b .size) (b .shares) (holder b t) < next b (holder b t) + suc m
+    → PastEnd tick t m (on b tick t L G) → commits-number (commit-book b tick t (next b (holder b t))) tick t (stretch (after b tick t L G) (suc m)) ≡ 58
 unfolding commits-number
-stretch-past tick t zero b L G l = let z = good-next b tick t L G in absurd (omega arith)
-stretch-past tick t (suc m) b L G l = rw (commit-accepted b tick t L G) (go (lt? (last (b .size) (b .shares) (holder b t)) (suc (next b (holder b t)))) (stretch-past tick t m (on b tick t L G)))
+past-step tick t m b L G l r = go (lt? (last (b .size) (b .shares) (holder b t)) (after b tick t L G))
   where
-    go : (last (b .size) (b .shares) (holder b t) < suc (next b (holder b t))) ⊎ (suc (next b (holder b t)) ≤ last (b .size) (b .shares) (holder b t))
-        → (Long (on b tick t L G) → TicketGood (on b tick t L G) tick t → last (on b tick t L G .size) (on b tick t L G .shares) (holder (on b tick t L G) t) < next (on b tick t L G) (holder (on b tick t L G) t) + m
-        → commits-number (on b tick t L G) tick t (stretch (next (on b tick t L G) (holder (on b tick t L G) t)) (suc m)) ≡ 58)
-        → commits-number (commit-book b tick t (next b (holder b t))) tick t (stretch (suc (next b (holder b t))) (suc m)) ≡ 58
-    go (inl u) r = let e : commit-number (commit-book b tick t (next b (holder b t))) tick t (suc (next b (holder b t))) ≡ 58 = unfold commit-number in (ended-number b tick t L G _ u) in rw e
-    go (inr u) r =
+    go : (last (b .size) (b .shares) (holder b t) < after b tick t L G) ⊎ (after b tick t L G ≤ last (b .size) (b .shares) (holder b t))
+        → commits-number (commit-book b tick t (next b (holder b t))) tick t (stretch (after b tick t L G) (suc m)) ≡ 58
+    go (inl u) =
+        let e : commit-number (commit-book b tick t (next b (holder b t))) tick t (after b tick t L G) ≡ 58 = unfold commit-number in (ended-number b tick t L G _ u) in
+        rw e
+    go (inr u) =
         let x = on-next b tick t L G u in
         let e = on-end b tick t L G u in
         rw (on-left b tick t L G u) (rw x at (r (on-long b tick t L G u) (on-good b tick t L G u) (rw (x, e) (omega arith))))
+
+stretch-past : (tick t m : ℕ) (b : Book) → PastEnd tick t m b
+unfolding commits-number
+stretch-past tick t zero b L G l = let z = good-next b tick t L G in absurd (omega arith)
+stretch-past tick t (suc m) b L G l = rw (commit-accepted b tick t L G) (past-step tick t m b L G l (stretch-past tick t m (on b tick t L G)))
 
 -- ---- a range
 
@@ -275,7 +297,8 @@ module _ (b : Book) (tick t p q : ℕ) where
           let z : commit-number b tick t p ≡ 60 = unfold commit-number in (rw (good-number b tick t (unless (eqb p (due b t)) 60 0) G, eqb-ne p (due b t) e)) in
           rw (eqb-ne p (due b t) e) (range-first l (λ y. let w = sym z ∙ y in omega arith) ∙ z)
 
-      asked : p ≤ q → (ticket-number b tick t 0 ≡ 0) ⊎ (ticket-number b tick t 0 ≢ 0) → commit-range-number b tick t p q ≡ ticket-number b tick t (unless (eqb p (due b t)) 60 ends)
+      asked : p ≤ q → (ticket-number b tick t 0 ≡ 0) ⊎ (ticket-number b tick t 0 ≢ 0)
+          → commit-range-number b tick t p q ≡ ticket-number b tick t (unless (eqb p (due b t)) 60 ends)
       asked l (inl e) = let G = ticket-good b tick t 0 e .0 in rw (good-number b tick t (unless (eqb p (due b t)) 60 ends) G) (good l G (same? p (due b t)))
       asked l (inr e) =
           let z : commit-number b tick t p ≡ ticket-number b tick t 0 = unfold commit-number in (refused-number b tick t (unless (eqb p (due b t)) 60 0) e) in
@@ -286,7 +309,8 @@ module _ (b : Book) (tick t p q : ℕ) where
       go (inr l) = rw (le-true _ _ l) (asked l (same? (ticket-number b tick t 0) 0))
 
   -- a range that is refused, and one that is not
-  pub range-refused : (k : ℕ) → k ≢ 0 → commit-range-number b tick t p q ≡ k → (committing.Refused k ≡ commit-range-answer b tick t p q) × (b ≡ commit-range-book b tick t p q)
+  pub range-refused : (k : ℕ) → k ≢ 0 → commit-range-number b tick t p q ≡ k
+      → (committing.Refused k ≡ commit-range-answer b tick t p q) × (b ≡ commit-range-book b tick t p q)
   unfolding commit-range-answer commit-range-book
   range-refused k n e = rw (e, eqb-ne _ _ n) (refl, refl)
 
@@ -318,7 +342,8 @@ module _ (b : Book) (tick t p q : ℕ) where
         left = rw (eqb-eq _ _ e, positions-begin l) (moved (T .0) d l u);
       }
     where
-      moved : TicketGood b tick t → p ≡ next b (holder b t) → p ≤ q → q ≤ last (b .size) (b .shares) (holder b t) → movedTo b tick (holder b t) (suc q) ≡ commits-book b tick t (stretch p (suc (q - p)))
+      moved : TicketGood b tick t → p ≡ next b (holder b t) → p ≤ q → q ≤ last (b .size) (b .shares) (holder b t)
+          → movedTo b tick (holder b t) (suc q) ≡ commits-book b tick t (stretch p (suc (q - p)))
       moved G d l u = rw d (ap (λ (x : ℕ). movedTo b tick (holder b t) (suc x)) (omega arith) ∙ sym (stretch-within tick t (q - next b (holder b t)) b L G (omega arith) .1))
 
   pub range-committed : commit-range-answer b tick t p q ≡ committing.Committed → commit-range-number b tick t p q ≡ 0
