@@ -9,13 +9,13 @@ use native.Mathlib.Omega.{arith}
 use lib.Dec.{eqb, leb, ltb}
 use lib.Seq.{set-set}
 use Rattle.lists.specs.Lists.{at, put}
-use Rattle.lists.specs.Ranges.{OneTo}
+use Rattle.lists.specs.Ranges.{OneTo, stretch}
 use Rattle.lists.proofs.Tests.{eqb-eq, eqb-ne, eqb-true, eqb-same, le-true, le-false, leb-true, lt-true, lt-false, same?, lt?, cond-all}
 use Rattle.book.specs.declared.types.Book.{Book}
 use Rattle.book.specs.declared.types.Committing.the-variants as committing
 use Rattle.book.specs.Shares.{first, last, next, ticket, expiry, finished, holder, lapsed}
 use Rattle.book.specs.Valid.{valid}
-use Rattle.book.specs.Calls.{unless, not, entered, tick-in, ticket-number, due, movedTo, movedOn, commit-number, commit-book, commits-number, commits-book, stretch, positions, commit-range-number, commit-range-answer, commit-range-book, range-number}
+use Rattle.book.specs.Calls.{unless, not, entered, tick-in, ticket-number, due, movedTo, movedOn, commit-number, commit-book, commits-number, commits-book, positions, commit-range-number, commit-range-answer, commit-range-book, range-number}
 use Rattle.book.proofs.ValidBook.{ValidBook, Long, facts-valid, entered-next, entered-ticket, entered-expiry, entered-long, other-ticket, entered-valid}
 use Rattle.book.proofs.Accepted.{zero-unless, Stands, holder-stands, TicketGood, ticket-good, ticket-unfinished, ticket-distinct, freed, kept-on}
 use Rattle.book.proofs.Tickets.{Nowhere, holder-nowhere, nowhere-holder, Gone, gone-commit}

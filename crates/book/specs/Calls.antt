@@ -20,7 +20,7 @@
 --   movedOn b tick j                the book b with share j moved on by one
 --   commits-number b tick t ps      the number of the first refusal where the positions ps are committed one after another, 0 where none is refused
 --   commits-book b tick t ps        the book after all of them
---   stretch p m, positions p q      the m positions p, p + 1, ..; the positions p, .., q
+--   positions p q                   the positions p, p + 1, .., q
 --   commit-range-number ..          a range of commits: its number, its answer and the book that it leaves, as above
 --   range-number b t p q            the same number in closed form, where the ticket is good (theorems, BookNumbers)
 use mathlib.Core.Path.{_≡_}
@@ -30,6 +30,7 @@ use Prim.Native.Nat.{ℕ, zero, suc, _+_, _-_, _^_}
 use lib.Dec.{eqb, leb, ltb}
 use lib.ListN.{length, replicate}
 use Rattle.lists.specs.Lists.{at, put, tabulate}
+use Rattle.lists.specs.Ranges.{stretch}
 use Rattle.words.specs.Outputs.{overwrite}
 use Rattle.words.specs.Word.{Pair}
 use Rattle.listing.specs.Position.{wordAt}
@@ -187,11 +188,6 @@ commits-number b tick t (p ∷ ps) =
 unfoldable pub commits-book : Book → ℕ → ℕ → List ℕ → Book
 commits-book b tick t [] = b
 commits-book b tick t (p ∷ ps) = commits-book (commit-book b tick t p) tick t ps
-
--- m positions, from p on
-abbrev pub stretch : ℕ → ℕ → List ℕ
-stretch p zero = []
-stretch p (suc m) = p ∷ stretch (suc p) m
 
 -- the positions p, .., q
 unfoldable pub positions : ℕ → ℕ → List ℕ

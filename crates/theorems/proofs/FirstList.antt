@@ -4,12 +4,13 @@ use mathlib.Core.Path.{_≡_, refl, sym, ap, _∙_}
 use mathlib.Core.Logic.{_≢_, _⊎_, inl, inr, _↔_}
 use mathlib.Core.Bool.{true}
 use mathlib.Core.List.{List, [], _∷_, _++_, append-assoc, append-nil}
-use Prim.Native.Nat.{ℕ, suc, _≤_, _<_}
+use Prim.Native.Nat.{ℕ, suc, _-_, _≤_, _<_}
 use native.Mathlib.Omega.{arith}
 use lib.ListN.{length}
 use Rattle.lists.specs.Lists.{at, Has}
 use Rattle.lists.specs.Ranges.{OneTo}
 use Rattle.lists.proofs.Tests.{eqb-eq, eqb-ne, same?}
+use Rattle.lists.proofs.Ranges.{has-stretch, stretch-has}
 use Rattle.diagrams.specs.Isomorphism.{RootedIsomorphic}
 use Rattle.diagrams.specs.Check.{Accepts}
 use Rattle.words.specs.Outputs.{overwrite}
@@ -27,7 +28,7 @@ use Rattle.book.specs.declared.types.Committing.the-variants.{Committed}
 use Rattle.book.specs.declared.types.Reporting.the-variants.{Progress}
 use Rattle.book.specs.Shares.{first, next, ticket, committed, complete, holder}
 use Rattle.book.specs.Valid.{among}
-use Rattle.book.specs.Calls.{unless, open-number, open-answer, open-book, opened, due, take-number, take-list, movedOn, commit-answer, commit-book, commit-range-answer, commit-range-book, report-answer}
+use Rattle.book.specs.Calls.{unless, open-number, open-answer, open-book, opened, due, take-number, take-list, movedOn, commit-answer, commit-book, positions, commit-range-answer, commit-range-book, report-answer}
 use Rattle.book.specs.Taken.{TakePromise}
 use Rattle.book.specs.Holding.{ShareHolds}
 use Rattle.book.proofs.Partition.{share-of, held-in}
@@ -197,6 +198,10 @@ module _ (n k : ℕ) (N : OneTo 50 n) (K : OneTo 32 k) (calls : List Call) where
         moved-on = moved-next b tick (holder b t) (ledger .long) (good-in b tick t (ledger .long) (G .good)) (suc (next b (holder b t)));
       })
 
+  in-range : (p q : ℕ) → p ≤ q → (x : ℕ) → Has x (positions p q) ↔ ((p ≤ x) × (x ≤ q))
+  unfolding positions
+  in-range p q l x = (λ h. (let i = stretch-has p (suc q - p) x h in omega arith), λ i. has-stretch p (suc q - p) x (i .0) (let u = i .1 in omega arith))
+
   records-range : (tick t p q : ℕ) → commit-range-answer b tick t p q ≡ Committed → RangeRecords n k b C t p q (commit-range-book b tick t p q)
   records-range tick t p q e =
       let G = range-good b tick t p q (ledger .long) (range-committed b tick t p q e) in
@@ -207,6 +212,7 @@ module _ (n k : ℕ) (N : OneTo 50 n) (K : OneTo 32 k) (calls : List Call) where
         ordered = G .ordered;
         held = record { share = D .held .share; from = (let x = D .held .from in let y = G .names in let z = G .ordered in omega arith); to = rw (ledger .sized, ledger .shared) at (G .within) };
         moved-on = rw (← G .left) (moved-next b tick (holder b t) (ledger .long) (good-in b tick t (ledger .long) (G .good)) (suc q));
+        commits-each = in-range p q (G .ordered);
       }
 
   first-list : FirstList n k b C

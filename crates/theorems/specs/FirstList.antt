@@ -120,13 +120,14 @@ pub record CommitRecords (n k : ℕ) (b : Book) (C : List ℕ) (t p : ℕ) (b′
   pub moved-on : next b′ share ≡ suc p
 
 -- what an accepted range of commits p, .., q tells of the book b before it and leaves in the book b′: p was due, its share holds q too, and has moved
--- on past q
+-- on past q; it commits each position from p to q, and no other
 pub record RangeRecords (n k : ℕ) (b : Book) (C : List ℕ) (t p q : ℕ) (b′ : Book) : Type 0 where
   pub share : ℕ
   pub due : Due n k b C t share p
   pub ordered : p ≤ q
   pub held : ShareHolds n k share q
   pub moved-on : next b′ share ≡ suc q
+  pub commits-each : (x : ℕ) → Has x (positions p q) ↔ ((p ≤ x) × (x ≤ q))
 
 -- The theorem, for a list of calls from a book of size n in k shares: b is the book that it leaves, C what it has committed.
 pub record FirstList (n k : ℕ) (b : Book) (C : List ℕ) : Type 0 where
