@@ -157,6 +157,11 @@ uint16_t kaldvemir_take(kaldvemir_book *book, uint64_t tick, uint64_t ticket, ui
 /* Commit: 58; 59; 60 not that share's next position. */
 uint16_t kaldvemir_commit(kaldvemir_book *book, uint64_t tick, uint64_t ticket, uint64_t position);
 
+/* Commit a range: the positions first, first + 1, .., last, as that many commits at that tick would, all of them or none; where one of them would be
+ * refused, the number of that refusal: 58, also where last is past the share's last position; 59; 60 first above last, or not that share's next
+ * position. Its time does not grow with the range. */
+uint16_t kaldvemir_commit_range(kaldvemir_book *book, uint64_t tick, uint64_t ticket, uint64_t first, uint64_t last);
+
 /* Release: 58; 59. */
 uint16_t kaldvemir_release(kaldvemir_book *book, uint64_t tick, uint64_t ticket);
 

@@ -17,7 +17,7 @@ use Rattle.book.specs.declared.types.Taking.the-variants as taking
 use Rattle.book.specs.declared.types.Committing.{Committing}
 use Rattle.book.specs.declared.types.Committing.the-variants as committing
 use Rattle.book.specs.Shares.{first, last, next, ticket, expiry, finished, holder}
-use Rattle.book.specs.Calls.{unless, entered, ticked, claim-number, claim-book, due, room, take-number, take-answer, take-book, commit-number, commit-answer, commit-book, movedOn, release-number, release-book, ticket-number}
+use Rattle.book.specs.Calls.{unless, entered, ticked, claim-number, claim-book, due, room, take-number, take-answer, take-book, commit-number, commit-answer, commit-book, movedOn, movedTo, release-number, release-book, ticket-number}
 use Rattle.book.proofs.ValidBook.{ValidBook, Long, Fitting, entered-valid, entered-long, entered-next, other-next, ticked-valid}
 use Rattle.book.proofs.Accepted.{zero-unless, TicketGood, ticket-good, ticket-unfinished, freed, kept-on, ClaimGood, claim-good, claim-fits}
 use Rattle.book.proofs.Ledger.{Ledger, ledger-same, ledger-more}
@@ -98,7 +98,7 @@ module _ (n k : ℕ) (b : Book) (C : List ℕ) (L : Ledger n k b C) where
       (λ h a q. other-next b tick (b .issued) j x p e (L .long) i h q)
 
   ledger-moved : (tick t : ℕ) → TicketGood b tick t → Ledger n k (movedOn b tick (holder b t)) (C ++ (next b (holder b t) ∷ []))
-  unfolding movedOn finished
+  unfolding movedOn movedTo finished
   ledger-moved tick t G = go (lt? (last (on .size) (on .shares) j) (next on j))
     where
       j : ℕ

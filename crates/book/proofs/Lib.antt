@@ -4,6 +4,7 @@ pub mod Accepted
 pub mod Ledger
 pub mod CallLaws
 pub mod Tickets
+pub mod CommitRange
 pub mod Entries
 pub mod Counts
 pub mod Examples

@@ -11,13 +11,13 @@ use Rattle.lists.proofs.Tests.{eqb-eq, eqb-ne, leb-true, same?}
 use Rattle.book.specs.declared.types.Book.{Book}
 use Rattle.book.specs.declared.types.Releasing.the-variants as releasing
 use Rattle.book.specs.Shares.{next, ticket, expiry, finished, standing, holder, lapsed}
-use Rattle.book.specs.Calls.{unless, entered, ticked, claim-number, claim-book, take-number, take-book, commit-number, commit-book, movedOn, release-number, release-answer, release-book, due}
+use Rattle.book.specs.Calls.{unless, entered, ticked, claim-number, claim-book, take-number, take-book, commit-number, commit-book, movedOn, movedTo, release-number, release-answer, release-book, due}
 use Rattle.book.proofs.ValidBook.{ValidBook, Long, entered-ticket, other-ticket}
 use Rattle.book.proofs.Accepted.{TicketGood, claim-good, ticket-good}
 
 -- ---- a ticket that stands at no share
 
-pub Nowhere : Book → ℕ → Type 0
+unfoldable pub Nowhere : Book → ℕ → Type 0
 Nowhere b t = (t ≡ 0) ⊎ ((j : ℕ) → OneTo (b .shares) j → ticket b j ≢ t)
 
 standing-none : (b : Book) (t m : ℕ) → standing b t m ≡ 0 → (j : ℕ) → OneTo m j → ticket b j ≢ t
@@ -120,7 +120,7 @@ module _ (b : Book) (S : ValidBook b) (L : Long b) (t : ℕ) (G : Gone b t) wher
       go (inr e) = rw (eqb-ne _ _ e) G
 
   gone-moved : (tick u : ℕ) → TicketGood b tick u → Gone (movedOn b tick (holder b u)) t
-  unfolding movedOn
+  unfolding movedOn movedTo
   gone-moved tick u T = go (finished (entered b tick (b .issued) (holder b u) (suc (next b (holder b u))) (at (b .ticket) (holder b u)) (at (b .expiry) (holder b u))) (holder b u))
     where
       go : (f : Bool) → Gone (cond f (entered b tick (b .issued) (holder b u) (suc (next b (holder b u))) 0 0) (entered b tick (b .issued) (holder b u) (suc (next b (holder b u))) (at (b .ticket) (holder b u)) (at (b .expiry) (holder b u)))) t

@@ -16,14 +16,21 @@
 --   due b t                         the next position of the share where the ticket t stands
 --   room n l0 l1 lw                 lists of these lengths hold a diagram of n edges and its word (refusal 9)
 --   take-list .. x a                what a take leaves in the lent list a, of which it writes x over the beginning where it is accepted
---   movedOn b tick j                the book b with share j moved on by one; past the last position its ticket ends
+--   movedTo b tick j p              the book b with p as share j's next position; past the last position its ticket ends
+--   movedOn b tick j                the book b with share j moved on by one
+--   commits-number b tick t ps      the number of the first refusal where the positions ps are committed one after another, 0 where none is refused
+--   commits-book b tick t ps        the book after all of them
+--   positions p q                   the positions p, p + 1, .., q
+--   commit-range-number ..          a range of commits: its number, its answer and the book that it leaves, as above
+--   range-number b t p q            the same number in closed form, where the ticket is good (theorems, BookNumbers)
 use mathlib.Core.Path.{_≡_}
 use mathlib.Core.Bool.{Bool, true, false, cond}
-use mathlib.Core.List.{List, []}
-use Prim.Native.Nat.{ℕ, zero, suc, _+_, _^_}
+use mathlib.Core.List.{List, [], _∷_}
+use Prim.Native.Nat.{ℕ, zero, suc, _+_, _-_, _^_}
 use lib.Dec.{eqb, leb, ltb}
 use lib.ListN.{length, replicate}
 use Rattle.lists.specs.Lists.{at, put, tabulate}
+use Rattle.lists.specs.Ranges.{stretch}
 use Rattle.words.specs.Outputs.{overwrite}
 use Rattle.words.specs.Word.{Pair}
 use Rattle.listing.specs.Position.{wordAt}
@@ -41,7 +48,7 @@ use Rattle.book.specs.declared.types.Releasing.{Releasing}
 use Rattle.book.specs.declared.types.Releasing.the-variants as releasing
 use Rattle.book.specs.declared.types.Reporting.{Reporting}
 use Rattle.book.specs.declared.types.Reporting.the-variants as reporting
-use Rattle.book.specs.Shares.{first, next, finished, committed, complete, holder, lapsed}
+use Rattle.book.specs.Shares.{first, last, next, finished, committed, complete, holder, lapsed}
 use Rattle.book.specs.Valid.{both, either, among, valid}
 pub use Rattle.book_connectives.specs.Connectives.{unless, not}
 
@@ -154,15 +161,52 @@ commit-number b tick t p = ticket-number b tick t (unless (eqb p (due b t)) 60 0
 unfoldable pub commit-answer : Book → ℕ → ℕ → ℕ → Committing
 commit-answer b tick t p = cond (eqb (commit-number b tick t p) 0) committing.Committed (committing.Refused (commit-number b tick t p))
 
--- the share moves on by one; past its last position its ticket ends
+-- the share goes on at p; past its last position its ticket ends
+unfoldable pub movedTo : Book → ℕ → ℕ → ℕ → Book
+movedTo b tick j p =
+    cond (finished (entered b tick (b .issued) j p (at (b .ticket) j) (at (b .expiry) j)) j)
+    (entered b tick (b .issued) j p 0 0)
+    (entered b tick (b .issued) j p (at (b .ticket) j) (at (b .expiry) j))
+
+-- the share moves on by one
 unfoldable pub movedOn : Book → ℕ → ℕ → Book
-movedOn b tick j =
-    cond (finished (entered b tick (b .issued) j (suc (next b j)) (at (b .ticket) j) (at (b .expiry) j)) j)
-    (entered b tick (b .issued) j (suc (next b j)) 0 0)
-    (entered b tick (b .issued) j (suc (next b j)) (at (b .ticket) j) (at (b .expiry) j))
+movedOn b tick j = movedTo b tick j (suc (next b j))
 
 unfoldable pub commit-book : Book → ℕ → ℕ → ℕ → Book
 commit-book b tick t p = cond (eqb (commit-number b tick t p) 0) (movedOn b tick (holder b t)) b
+
+-- ---- a range of commits: the positions first, first + 1, .., last are committed one after another at one tick, all of them or none: 60 also where
+-- first is above last, after 50, 52, 58 and 59
+
+-- the number of the first of these commits that is refused, each on the book that the one before left; 0 where none is
+unfoldable pub commits-number : Book → ℕ → ℕ → List ℕ → ℕ
+commits-number b tick t [] = 0
+commits-number b tick t (p ∷ ps) =
+    cond (eqb (commit-number b tick t p) 0) (commits-number (commit-book b tick t p) tick t ps) (commit-number b tick t p)
+
+-- the book after all of them
+unfoldable pub commits-book : Book → ℕ → ℕ → List ℕ → Book
+commits-book b tick t [] = b
+commits-book b tick t (p ∷ ps) = commits-book (commit-book b tick t p) tick t ps
+
+-- the positions p, .., q
+unfoldable pub positions : ℕ → ℕ → List ℕ
+positions p q = stretch p (suc q - p)
+
+unfoldable pub commit-range-number : Book → ℕ → ℕ → ℕ → ℕ → ℕ
+commit-range-number b tick t p q = cond (leb p q) (commits-number b tick t (positions p q)) (ticket-number b tick t 60)
+
+unfoldable pub commit-range-answer : Book → ℕ → ℕ → ℕ → ℕ → Committing
+commit-range-answer b tick t p q =
+    cond (eqb (commit-range-number b tick t p q) 0) committing.Committed (committing.Refused (commit-range-number b tick t p q))
+
+unfoldable pub commit-range-book : Book → ℕ → ℕ → ℕ → ℕ → Book
+commit-range-book b tick t p q = cond (eqb (commit-range-number b tick t p q) 0) (commits-book b tick t (positions p q)) b
+
+-- what a range of commits under a good ticket is refused by, of its two ends alone: 60, it is empty, or p is not the share's next position;
+-- 58, q is past the share's last position, so that a commit of the range finds its ticket ended
+unfoldable pub range-number : Book → ℕ → ℕ → ℕ → ℕ
+range-number b t p q = unless (leb p q) 60 (unless (eqb p (due b t)) 60 (unless (leb q (last (b .size) (b .shares) (holder b t))) 58 0))
 
 -- ---- release, giving the lease back
 

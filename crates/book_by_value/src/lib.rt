@@ -8,7 +8,7 @@ use book_lent::ReleaseDone;
 use book_lent::Reporting;
 use book_lent::TakeDone;
 ghost use mathlib.Core.Path.{_≡_};
-ghost use Rattle.book.specs.Calls.{open-answer, open-book, claim-answer, claim-book, commit-answer, commit-book, release-answer, release-book, report-answer};
+ghost use Rattle.book.specs.Calls.{open-answer, open-book, claim-answer, claim-book, commit-answer, commit-book, commit-range-answer, commit-range-book, release-answer, release-book, report-answer};
 ghost use Rattle.book.specs.Taken.{TakePromise};
 
 pub fn open(mut b: Book, size: u64, k: u64) -> OpenDone
@@ -43,6 +43,13 @@ pub fn commit(mut b: Book, tick: u64, ticket: u64, position: u64) -> CommitDone
     ensures { λ r. ⌜ (r .answer ≡ commit-answer b tick ticket position) × (r .book ≡ commit-book b tick ticket position) ⌝ }
 {
     let a = book_lent::commit(&mut b, tick, ticket, position);
+    CommitDone { answer: a, book: b }
+}
+
+pub fn commit_range(mut b: Book, tick: u64, ticket: u64, first: u64, last: u64) -> CommitDone
+    ensures { λ r. ⌜ (r .answer ≡ commit-range-answer b tick ticket first last) × (r .book ≡ commit-range-book b tick ticket first last) ⌝ }
+{
+    let a = book_lent::commit_range(&mut b, tick, ticket, first, last);
     CommitDone { answer: a, book: b }
 }
 

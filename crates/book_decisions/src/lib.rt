@@ -5,6 +5,7 @@ use book::Reporting;
 pub use book_decisions_claim::claim;
 pub use book_decisions_claim::release;
 pub use book_decisions_commit::commit;
+pub use book_decisions_commit_range::commit_range;
 pub use book_decisions_take::take;
 use book_progress::committed;
 use book_progress::complete;

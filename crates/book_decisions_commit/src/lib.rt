@@ -9,12 +9,12 @@ use book_standing::Asked;
 use book_standing::ask;
 ghost use mathlib.Core.Path.{_≡_};
 ghost use mathlib.Core.Bool.{cond};
-ghost use Prim.Native.Nat.{_≤_};
-ghost use Rattle.lists.specs.Lists.{at};
+ghost use mathlib.Core.List.{List};
+ghost use Prim.Native.Nat.{ℕ};
+ghost use lib.ListN.{length};
 ghost use Rattle.lists.specs.Ranges.{OneTo};
-ghost use Rattle.book.specs.Shares.{last};
 ghost use Rattle.book.specs.Changes.{changed, Placed};
-ghost use Rattle.book.specs.Calls.{movedOn};
+ghost use Rattle.book.specs.Calls.{movedTo};
 ghost use Rattle.book_entries.specs.Entries.{bookWith, Full};
 ghost use Rattle.book_decisions_commit.specs.Commits.{CommitOf};
 
@@ -28,22 +28,20 @@ fn unless_ended(ended: bool, x: u64) -> u64
     x
 }
 
-// Share j moves on by one; past its last position its ticket ends.
-fn moved_on<'a>(
+// Share j goes on at a position; past its last position its ticket ends. Of the book's lists it looks at two, so this is said of any next positions.
+pub fn moved_to<'a>(
     h: Heads,
-    nexts: &'a [u64],
     tickets: &'a [u64],
     expiries: &'a [u64],
     tick: u64,
     j: u64,
+    position: u64,
 ) -> Change
-    requires { ⌜ OneTo 50 (h .size) × OneTo 32 (h .shares) × OneTo 32 j × (at (now nexts) j ≤ last (h .size) (h .shares) j)
-        × Full (now nexts) (now tickets) (now expiries) ⌝ }
-    ensures { λ r. ⌜ (changed (bookWith h (now (nexts .entry)) (now (tickets .entry)) (now (expiries .entry))) r
-        ≡ movedOn (bookWith h (now (nexts .entry)) (now (tickets .entry)) (now (expiries .entry))) tick j)
+    requires { ⌜ OneTo 50 (h .size) × OneTo 32 (h .shares) × OneTo 32 j × (length (now tickets) ≡ 32) × (length (now expiries) ≡ 32) ⌝ }
+    ensures { λ r. ⌜ ((nexts : List ℕ) → length nexts ≡ 32 → changed (bookWith h nexts (now (tickets .entry)) (now (expiries .entry))) r
+        ≡ movedTo (bookWith h nexts (now (tickets .entry)) (now (expiries .entry))) tick j position)
         × Placed r ⌝ }
 {
-    let position = entry(nexts, j) + 1;
     let ended = past(h.size, h.shares, j, position);
     Change::Entries {
         latest: tick,
@@ -81,7 +79,7 @@ pub fn commit<'a>(
             }
             CommitChoice {
                 answer: Committing::Committed,
-                change: moved_on(h, nexts, tickets, expiries, tick, j),
+                change: moved_to(h, tickets, expiries, tick, j, position + 1),
             }
         }
     }

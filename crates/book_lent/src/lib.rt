@@ -14,12 +14,13 @@ pub use book::TakeDone;
 pub use book::Taking;
 use book_operations::claim_core;
 use book_operations::commit_core;
+use book_operations::commit_range_core;
 use book_operations::open_core;
 use book_operations::release_core;
 use book_operations::report_core;
 use book_operations::take_core;
 ghost use mathlib.Core.Path.{_≡_};
-ghost use Rattle.book.specs.Calls.{open-answer, open-book, claim-answer, claim-book, commit-answer, commit-book, release-answer, release-book, report-answer};
+ghost use Rattle.book.specs.Calls.{open-answer, open-book, claim-answer, claim-book, commit-answer, commit-book, commit-range-answer, commit-range-book, release-answer, release-book, report-answer};
 ghost use Rattle.book.specs.Taken.{TakePromise};
 
 // Divides the positions of a size among k shares, each at its first position. Refuses 31; 51, k outside 1..32.
@@ -64,6 +65,16 @@ pub fn commit(b: &mut Book, tick: u64, ticket: u64, position: u64) -> Committing
     ensures { λ r. ⌜ (r ≡ commit-answer (now (b .entry)) tick ticket position) × (now (b .exit) ≡ commit-book (now (b .entry)) tick ticket position) ⌝ }
 {
     let c = commit_core(*b, tick, ticket, position);
+    *b = c.book;
+    c.answer
+}
+
+// Commits the positions first, first + 1, .., last, as that many commits at that tick would, or none of them: where one would be refused, it is that
+// one's refusal. Refuses 50; 52; 58, also where last is past the share's last position; 59; 60, first is above last or not that share's next position.
+pub fn commit_range(b: &mut Book, tick: u64, ticket: u64, first: u64, last: u64) -> Committing
+    ensures { λ r. ⌜ (r ≡ commit-range-answer (now (b .entry)) tick ticket first last) × (now (b .exit) ≡ commit-range-book (now (b .entry)) tick ticket first last) ⌝ }
+{
+    let c = commit_range_core(*b, tick, ticket, first, last);
     *b = c.book;
     c.answer
 }

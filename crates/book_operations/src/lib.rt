@@ -13,7 +13,7 @@ use books::changed;
 use books::heads;
 ghost use mathlib.Core.Path.{_≡_};
 ghost use Rattle.book.specs.Taken.{TakePromise};
-ghost use Rattle.book.specs.Calls.{claim-answer, claim-book, commit-answer, commit-book, release-answer, release-book, report-answer};
+ghost use Rattle.book.specs.Calls.{claim-answer, claim-book, commit-answer, commit-book, commit-range-answer, commit-range-book, release-answer, release-book, report-answer};
 
 pub fn claim_core(b: Book, tick: u64, share: u64, length: u64) -> ClaimDone
     ensures { λ r. ⌜ (r .answer ≡ claim-answer b tick share length) × (r .book ≡ claim-book b tick share length) ⌝ }
@@ -66,6 +66,28 @@ pub fn commit_core(b: Book, tick: u64, ticket: u64, position: u64) -> CommitDone
 {
     let h = heads(b);
     let choice = book_decisions::commit(h, &b.next, &b.ticket, &b.expiry, tick, ticket, position);
+    let answer = choice.answer;
+    let change = choice.change;
+    CommitDone {
+        answer,
+        book: changed(b, change),
+    }
+}
+
+pub fn commit_range_core(b: Book, tick: u64, ticket: u64, first: u64, last: u64) -> CommitDone
+    ensures { λ r. ⌜ (r .answer ≡ commit-range-answer b tick ticket first last) × (r .book ≡ commit-range-book b tick ticket first last) ⌝ }
+{
+    let h = heads(b);
+    let choice = book_decisions::commit_range(
+        h,
+        &b.next,
+        &b.ticket,
+        &b.expiry,
+        tick,
+        ticket,
+        first,
+        last,
+    );
     let answer = choice.answer;
     let change = choice.change;
     CommitDone {

@@ -126,6 +126,7 @@ pub fn on_line(
         check|cLLN|ok;\
         claim|CNNN|ticket A;\
         commit|PNNN|ok;\
+        commits|QNNNN|ok;\
         compare rooted|rLLNLLN|different|same|refused A side B;\
         compare unrooted|uLLNLLN|different|same|refused A side B;\
         count|nN|A;\

@@ -32,6 +32,7 @@
 //   claim TICK SHARE LENGTH                        ticket T
 //   take TICK TICKET [R0 R1 RW]                    share J position P S0 S1 WORD
 //   commit TICK TICKET P                           ok
+//   commits TICK TICKET FIRST LAST                 ok; the positions FIRST to LAST in one call
 //   release TICK TICKET                            ok
 //   report                                         N complete or N open
 //   book                                           SIZE K LATEST ISSUED NEXT TICKET EXPIRY, three lists of 32; all zeros before any open

@@ -6,6 +6,7 @@ use console_replies::placed;
 use console_replies::valued;
 use kaldvemir::books::kaldvemir_claim;
 use kaldvemir::books::kaldvemir_commit;
+use kaldvemir::books::kaldvemir_commit_range;
 use kaldvemir::books::kaldvemir_open;
 use kaldvemir::books::kaldvemir_release;
 use kaldvemir::books::kaldvemir_report;
@@ -48,6 +49,10 @@ pub fn take(
 
 pub fn commit(book: &mut [u64; 100], tick: u64, ticket: u64, position: u64) -> Reply {
     done(kaldvemir_commit(book, tick, ticket, position))
+}
+
+pub fn commit_range(book: &mut [u64; 100], tick: u64, ticket: u64, first: u64, last: u64) -> Reply {
+    done(kaldvemir_commit_range(book, tick, ticket, first, last))
 }
 
 pub fn release(book: &mut [u64; 100], tick: u64, ticket: u64) -> Reply {

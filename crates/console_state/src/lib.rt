@@ -22,6 +22,7 @@ fn on_book(
         b'F' => book::release(book, a, b),
         b'O' => book::open(book, a, b),
         b'P' => book::commit(book, a, b, c),
+        b'Q' => book::commit_range(book, a, b, c, values[4]),
         b'R' => book::report(book),
         _ => book::take(book, a, b, s0, s1, word),
     }

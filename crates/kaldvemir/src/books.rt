@@ -6,7 +6,7 @@ use kaldvemir_answers_book::release_answer;
 use kaldvemir_answers_book::report_answer;
 use kaldvemir_answers_book::take_answer;
 ghost use mathlib.Core.Path.{_≡_};
-ghost use Rattle.book.specs.Calls.{open-answer, open-book, claim-answer, claim-book, commit-answer, commit-book, release-answer, release-book, report-answer};
+ghost use Rattle.book.specs.Calls.{open-answer, open-book, claim-answer, claim-book, commit-answer, commit-book, commit-range-answer, commit-range-book, release-answer, release-book, report-answer};
 ghost use Rattle.book.specs.Taken.{TakePromise};
 ghost use Rattle.book.specs.declared.types.Book.{Book};
 ghost use Rattle.book.specs.declared.types.Taking.{Taking};
@@ -73,6 +73,20 @@ pub extern "C" fn kaldvemir_commit(
         × (now (book .exit) ≡ book-numbers (commit-book (book-of (now (book .entry))) tick ticket position)) ⌝ }
 {
     commit_answer(kaldvemir_book::commit(book, tick, ticket, position))
+}
+
+#[no_mangle]
+pub extern "C" fn kaldvemir_commit_range(
+    book: &mut [u64; 100],
+    tick: u64,
+    ticket: u64,
+    first: u64,
+    last: u64,
+) -> u16
+    ensures { λ r. ⌜ (r ≡ answers.committing-number (commit-range-answer (book-of (now (book .entry))) tick ticket first last))
+        × (now (book .exit) ≡ book-numbers (commit-range-book (book-of (now (book .entry))) tick ticket first last)) ⌝ }
+{
+    commit_answer(kaldvemir_book::commit_range(book, tick, ticket, first, last))
 }
 
 #[no_mangle]

@@ -15,7 +15,7 @@ use kaldvemir_layout_book::nexts;
 use kaldvemir_layout_book::put_back;
 use kaldvemir_layout_book::tickets;
 ghost use mathlib.Core.Path.{_≡_};
-ghost use Rattle.book.specs.Calls.{open-answer, open-book, claim-answer, claim-book, commit-answer, commit-book, release-answer, release-book, report-answer};
+ghost use Rattle.book.specs.Calls.{open-answer, open-book, claim-answer, claim-book, commit-answer, commit-book, commit-range-answer, commit-range-book, release-answer, release-book, report-answer};
 ghost use Rattle.book.specs.Taken.{TakePromise};
 ghost use Rattle.book.specs.declared.types.Book.{Book};
 ghost use Rattle.kaldvemir_layout_book.specs.Layout.{book-of, book-numbers};
@@ -116,6 +116,33 @@ pub fn commit(book: &mut [u64; 100], tick: u64, ticket: u64, position: u64) -> C
         tick,
         ticket,
         position,
+    );
+    let answer = choice.answer;
+    let altered = choice.change;
+    change(book, altered);
+    answer
+}
+
+pub fn commit_range(
+    book: &mut [u64; 100],
+    tick: u64,
+    ticket: u64,
+    first: u64,
+    last: u64,
+) -> Committing
+    ensures { λ r. ⌜ (r ≡ commit-range-answer (book-of (now (book .entry))) tick ticket first last)
+        × (now (book .exit) ≡ book-numbers (commit-range-book (book-of (now (book .entry))) tick ticket first last)) ⌝ }
+{
+    let numbers: &[u64] = book;
+    let choice = book_decisions::commit_range(
+        heads(numbers),
+        nexts(numbers),
+        tickets(numbers),
+        expiries(numbers),
+        tick,
+        ticket,
+        first,
+        last,
     );
     let answer = choice.answer;
     let altered = choice.change;

@@ -1,13 +1,13 @@
--- Laws of the numbers 1 to n.
+-- Laws of the numbers 1 to n, and of consecutive numbers.
 use mathlib.Core.Path.{_≡_, refl, sym, ap}
 use mathlib.Core.Logic.{_≢_, _⊎_, inl, inr}
 use mathlib.Core.Bool.{Bool, true, false, cond}
 use mathlib.Core.List.{List, [], _∷_}
-use Prim.Native.Nat.{ℕ, zero, suc, _+_, _≤_}
+use Prim.Native.Nat.{ℕ, zero, suc, _+_, _≤_, _<_}
 use native.Mathlib.Omega.{arith}
 use lib.ListN.{length}
 use Rattle.lists.specs.Lists.{Has, Distinct}
-use Rattle.lists.specs.Ranges.{OneTo, every, card, down}
+use Rattle.lists.specs.Ranges.{OneTo, every, card, down, stretch}
 use Rattle.lists.proofs.Tests.{same?, both-true}
 use Rattle.lists.proofs.Lists.{has?, pigeons}
 
@@ -104,3 +104,18 @@ onto n φ into inj y e = go (has? y (image φ n))
         sub : (x : ℕ) → Has x (y ∷ image φ n) → Has x (down n)
         sub x (inl q) = has-down n x (rw q e)
         sub x (inr m) = let q = image-from φ n x m in rw (← q .2) (has-down n (φ (q .0)) (into (q .0) (q .1)))
+
+-- ---- p, p + 1, ..
+
+pub has-stretch : (p m x : ℕ) → p ≤ x → x < p + m → Has x (stretch p m)
+has-stretch p zero x l u = absurd (omega arith)
+has-stretch p (suc m) x l u = go (same? x p) (has-stretch (suc p) m x)
+  where
+    go : (x ≡ p) ⊎ (x ≢ p) → (suc p ≤ x → x < suc p + m → Has x (stretch (suc p) m)) → Has x (stretch p (suc m))
+    go (inl e) k = inl e
+    go (inr e) k = inr (k (omega arith) (omega arith))
+
+pub stretch-has : (p m x : ℕ) → Has x (stretch p m) → (p ≤ x) × (x < p + m)
+stretch-has p zero x h = absurd h
+stretch-has p (suc m) x (inl e) = omega arith
+stretch-has p (suc m) x (inr h) = let i = stretch-has (suc p) m x h in omega arith

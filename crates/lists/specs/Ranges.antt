@@ -1,10 +1,11 @@
--- The numbers 1 to n, and what is said of all of them at once.
+-- The numbers 1 to n, and what is said of all of them at once; consecutive numbers.
 --
 --   OneTo n x      x is one of 1..n: an edge of a diagram of size n
 --   every n t      the test t holds at each of 1..n
 --   card n t       how many of 1..n pass the test t
 --   maximum n t    the largest of t 1, .., t n; 0 where n is 0
 --   down n         the list n, .., 2, 1
+--   stretch p m    the list p, p + 1, .. of m numbers
 use mathlib.Core.Bool.{Bool, true, false, cond}
 use mathlib.Core.List.{List, [], _∷_}
 use Prim.Native.Nat.{ℕ, zero, suc, _+_, _≤_, max}
@@ -27,3 +28,7 @@ maximum (suc n) t = max (t (suc n)) (maximum n t)
 abbrev pub down : ℕ → List ℕ
 down zero = []
 down (suc n) = suc n ∷ down n
+
+abbrev pub stretch : ℕ → ℕ → List ℕ
+stretch p zero = []
+stretch p (suc m) = p ∷ stretch (suc p) m

@@ -10,7 +10,8 @@ use Rattle.book.specs.declared.types.Reporting.the-variants as reporting
 use Rattle.book.specs.Answers.{opening-number, claiming-number, taking-number, committing-number, releasing-number, reporting-number}
 use Rattle.book.specs.Shares.{committed, complete}
 use Rattle.book.specs.Valid.{valid}
-use Rattle.book.specs.Calls.{open-answer, open-number, claim-answer, claim-number, take-answer, take-number, commit-answer, commit-number, release-answer, release-number, report-answer}
+use Rattle.book.specs.Calls.{open-answer, open-number, claim-answer, claim-number, take-answer, take-number, commit-answer, commit-number, commit-range-answer, commit-range-number, release-answer, release-number, report-answer}
+use Rattle.book.proofs.CommitRange.{range-closed}
 use Rattle.theorems.specs.BookNumbers.{BookNumbers}
 
 -- an answer that is x, whose number is 0, where k is 0, and a refusal y of the number k otherwise
@@ -37,6 +38,10 @@ commit-is : (b : Book) (tick t p : ℕ) → committing-number (commit-answer b t
 unfolding commit-answer
 commit-is b tick t p = number-is committing-number _ _ (commit-number b tick t p) refl refl
 
+commit-range-is : (b : Book) (tick t p q : ℕ) → committing-number (commit-range-answer b tick t p q) ≡ commit-range-number b tick t p q
+unfolding commit-range-answer
+commit-range-is b tick t p q = number-is committing-number _ _ (commit-range-number b tick t p q) refl refl
+
 release-is : (b : Book) (tick t : ℕ) → releasing-number (release-answer b tick t) ≡ release-number b tick t
 unfolding release-answer
 release-is b tick t = number-is releasing-number _ _ (release-number b tick t) refl refl
@@ -50,4 +55,4 @@ report-is b = go (valid b)
     go false = refl
 
 pub book-numbers : BookNumbers
-book-numbers = record { opening = open-is; claim = claim-is; take = take-is; commit = commit-is; release = release-is; report = report-is }
+book-numbers = record { opening = open-is; claim = claim-is; take = take-is; commit = commit-is; commit-range = commit-range-is; range-conditions = λ b tick t p q x y z. range-closed b tick t p q record { next-long = x; ticket-long = y; expiry-long = z }; release = release-is; report = report-is }

@@ -21,7 +21,8 @@ use Rattle.book.proofs.Accepted.{TicketGood, ticket-good}
 use Rattle.book.proofs.Ledger.{Ledger, passed-held}
 use Rattle.book.proofs.CallLaws.{commit-good, committed-number, take-good}
 use Rattle.book.proofs.Tickets.{Gone, holder-nowhere, nowhere-holder, gone-claim, gone-take, gone-release, gone-commit, not-nowhere, not-lapsed, released-good}
-use Rattle.theorems.specs.FirstList.{Call, claim, take, commit, release, report, bookAfter, bookAfterAll, committedBy, commits}
+use Rattle.book.proofs.CommitRange.{range-good, range-committed, gone-range}
+use Rattle.theorems.specs.FirstList.{Call, claim, take, commit, commitRange, release, report, bookAfter, bookAfterAll, committedBy, commits}
 use Rattle.theorems.specs.Corollaries.{Powerless, SameShare, Corollaries, CorollariesHold}
 use Rattle.theorems.proofs.FirstList.{ledger, ledger-after, ledger-all, open-good}
 
@@ -29,6 +30,7 @@ module _ (n k : ℕ) (b : Book) (C : List ℕ) (L : Ledger n k b C) where
   powerless : (tick t : ℕ) → ¬ TicketGood b tick t → Powerless b tick t
   powerless tick t N = record {
     no-commit = λ p e. N (commit-good n k b C L tick t p (committed-number b tick t p e) .good);
+    no-range = λ p q e. N (range-good b tick t p q (L .long) (range-committed b tick t p q e) .good);
     no-release = λ e. N (released-good b tick t e);
     no-take = λ l0 l1 lw j p m e. N (take-good b tick t l0 l1 lw j p m e .good);
   }
@@ -37,6 +39,7 @@ module _ (n k : ℕ) (b : Book) (C : List ℕ) (L : Ledger n k b C) where
   gone-after t G (claim tick j len) = gone-claim b (L .is-valid) (L .long) t G tick j len
   gone-after t G (take tick u s0 s1 word) = gone-take b (L .is-valid) (L .long) t G tick u (length s0) (length s1) (length word)
   gone-after t G (commit tick u p) = gone-commit b (L .is-valid) (L .long) t G tick u p
+  gone-after t G (commitRange tick u p q) = gone-range n k b C L t G tick u p q
   gone-after t G (release tick u) = gone-release b (L .is-valid) (L .long) t G tick u
   gone-after t G report = G
 

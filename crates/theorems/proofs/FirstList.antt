@@ -2,22 +2,22 @@
 -- and the commits have to say.
 use mathlib.Core.Path.{_≡_, refl, sym, ap, _∙_}
 use mathlib.Core.Logic.{_≢_, _⊎_, inl, inr, _↔_}
-use mathlib.Core.Bool.{Bool, true, false, cond}
+use mathlib.Core.Bool.{true}
 use mathlib.Core.List.{List, [], _∷_, _++_, append-assoc, append-nil}
-use Prim.Native.Nat.{ℕ, zero, suc, _≤_, _<_}
+use Prim.Native.Nat.{ℕ, suc, _-_, _≤_, _<_}
 use native.Mathlib.Omega.{arith}
-use lib.Dec.{eqb}
 use lib.ListN.{length}
-use Rattle.lists.specs.Lists.{at, Has, Distinct}
+use Rattle.lists.specs.Lists.{at, Has}
 use Rattle.lists.specs.Ranges.{OneTo}
 use Rattle.lists.proofs.Tests.{eqb-eq, eqb-ne, same?}
+use Rattle.lists.proofs.Ranges.{has-stretch, stretch-has}
 use Rattle.diagrams.specs.Isomorphism.{RootedIsomorphic}
 use Rattle.diagrams.specs.Check.{Accepts}
-use Rattle.words.specs.Outputs.{overwrite, Written}
+use Rattle.words.specs.Outputs.{overwrite}
 use Rattle.labelling.specs.Labelling.{wordOf}
 use Rattle.labelling.proofs.OfLists.{isomorphic-words}
 use Rattle.listing.specs.Listing.{count}
-use Rattle.listing.specs.Position.{wordAt, position}
+use Rattle.listing.specs.Position.{position}
 use Rattle.listing.specs.Diagrams.{diagramAt}
 use Rattle.listing.proofs.Positions.{at-once}
 use Rattle.listing.proofs.InPlace.{at-size, at-wordOf, at-characteristic, at-accepted, position-counted, position-isomorphic, position-only}
@@ -26,18 +26,18 @@ use Rattle.book.specs.declared.types.Opening.the-variants.{Opened}
 use Rattle.book.specs.declared.types.Taking.the-variants.{Given}
 use Rattle.book.specs.declared.types.Committing.the-variants.{Committed}
 use Rattle.book.specs.declared.types.Reporting.the-variants.{Progress}
-use Rattle.book.specs.Shares.{first, last, next, ticket, finished, committed, complete, holder}
-use Rattle.book.specs.Valid.{among, valid}
-use Rattle.book.specs.Calls.{unless, open-number, open-answer, open-book, opened, entered, due, take-number, take-list, movedOn, commit-number, commit-answer, commit-book, report-answer}
+use Rattle.book.specs.Shares.{first, next, ticket, committed, complete, holder}
+use Rattle.book.specs.Valid.{among}
+use Rattle.book.specs.Calls.{unless, open-number, open-answer, open-book, opened, due, take-number, take-list, movedOn, commit-answer, commit-book, positions, commit-range-answer, commit-range-book, report-answer}
 use Rattle.book.specs.Taken.{TakePromise}
 use Rattle.book.specs.Holding.{ShareHolds}
-use Rattle.book.proofs.Partition.{share-of, held-in, share-once}
-use Rattle.book.proofs.ValidBook.{facts-valid, among-true, entered-next}
+use Rattle.book.proofs.Partition.{share-of, held-in}
+use Rattle.book.proofs.ValidBook.{facts-valid, among-true}
 use Rattle.book.proofs.Accepted.{zero-unless, Stands, ticket-unfinished}
 use Rattle.book.proofs.Ledger.{Ledger, passed-held, next-uncommitted, ledger-opened, finished-all, all-finished, complete-shares, shares-complete}
 use Rattle.book.proofs.CallLaws.{ledger-claim, ledger-take, ledger-commit, ledger-release, commit-good, committed-number, take-good}
-use Rattle.theorems.specs.Demand2.{Characteristic}
-use Rattle.theorems.specs.FirstList.{Call, claim, take, commit, release, report, bookAfter, bookAfterAll, committedBy, commits, ShareFinished, IsAt, EachOnce, InPlace, Due, TakeGives, CommitRecords, FirstList, FirstListHolds}
+use Rattle.book.proofs.CommitRange.{moved-next, good-in, ledger-range, range-good, range-committed}
+use Rattle.theorems.specs.FirstList.{Call, claim, take, commit, commitRange, release, report, bookAfter, bookAfterAll, committedBy, commits, ShareFinished, IsAt, EachOnce, InPlace, Due, TakeGives, CommitRecords, RangeRecords, FirstList, FirstListHolds}
 
 -- ---- the ledger along a list
 
@@ -45,6 +45,7 @@ pub ledger-after : (n k : ℕ) (b : Book) (C : List ℕ) → Ledger n k b C → 
 ledger-after n k b C L (claim tick j len) = rw append-nil (ledger-claim n k b C L tick j len)
 ledger-after n k b C L (take tick t s0 s1 word) = rw append-nil (ledger-take n k b C L tick t (length s0) (length s1) (length word))
 ledger-after n k b C L (commit tick t p) = ledger-commit n k b C L tick t p
+ledger-after n k b C L (commitRange tick t p q) = ledger-range n k b C L tick t p q
 ledger-after n k b C L (release tick t) = rw append-nil (ledger-release n k b C L tick t)
 ledger-after n k b C L report = rw append-nil L
 
@@ -186,28 +187,33 @@ module _ (n k : ℕ) (N : OneTo 50 n) (K : OneTo 32 k) (calls : List Call) where
         };
       }
 
-  -- a share that moves on, whether its ticket ends or not
-  moved-on : (tick t : ℕ) → Stands b t (holder b t) → next (movedOn b tick (holder b t)) (holder b t) ≡ suc (next b (holder b t))
-  unfolding movedOn
-  moved-on tick t T = go (finished (entered b tick (b .issued) j (suc (next b j)) (ticket b j) (at (b .expiry) j)) j)
-    where
-      j : ℕ
-      j = holder b t
-
-      i : OneTo 32 j
-      i = let z = ledger .is-valid .shares-in in let y = T .share-in in omega arith
-
-      go : (test : Bool)
-          → next (cond test (entered b tick (b .issued) j (suc (next b j)) 0 0) (entered b tick (b .issued) j (suc (next b j)) (ticket b j) (at (b .expiry) j))) j ≡ suc (next b j)
-      go true = entered-next b tick (b .issued) j (suc (next b j)) 0 0 (ledger .long) i
-      go false = entered-next b tick (b .issued) j (suc (next b j)) (ticket b j) (at (b .expiry) j) (ledger .long) i
-
   records : (tick t p : ℕ) → commit-answer b tick t p ≡ Committed → CommitRecords n k b C t p (commit-book b tick t p)
-  unfolding commit-book
+  unfolding commit-book movedOn
   records tick t p e =
       let z = committed-number b tick t p e in
       let G = commit-good n k b C ledger tick t p z in
-      rw (eqb-eq _ _ z) (rw (G .names) record { share = holder b t; due = is-due t (G .good .stands); moved-on = moved-on tick t (G .good .stands) })
+      rw (eqb-eq _ _ z) (rw (G .names) record {
+        share = holder b t;
+        due = is-due t (G .good .stands);
+        moved-on = moved-next b tick (holder b t) (ledger .long) (good-in b tick t (ledger .long) (G .good)) (suc (next b (holder b t)));
+      })
+
+  in-range : (p q : ℕ) → p ≤ q → (x : ℕ) → Has x (positions p q) ↔ ((p ≤ x) × (x ≤ q))
+  unfolding positions
+  in-range p q l x = (λ h. (let i = stretch-has p (suc q - p) x h in omega arith), λ i. has-stretch p (suc q - p) x (i .0) (let u = i .1 in omega arith))
+
+  records-range : (tick t p q : ℕ) → commit-range-answer b tick t p q ≡ Committed → RangeRecords n k b C t p q (commit-range-book b tick t p q)
+  records-range tick t p q e =
+      let G = range-good b tick t p q (ledger .long) (range-committed b tick t p q e) in
+      let D = is-due t (G .good .stands) in
+      record {
+        share = holder b t;
+        due = rw (G .names) D;
+        ordered = G .ordered;
+        held = record { share = D .held .share; from = (let x = D .held .from in let y = G .names in let z = G .ordered in omega arith); to = rw (ledger .sized, ledger .shared) at (G .within) };
+        moved-on = rw (← G .left) (moved-next b tick (holder b t) (ledger .long) (good-in b tick t (ledger .long) (G .good)) (suc q));
+        commits-each = in-range p q (G .ordered);
+      }
 
   first-list : FirstList n k b C
   first-list = record {
@@ -219,6 +225,7 @@ module _ (n k : ℕ) (N : OneTo 50 n) (K : OneTo 32 k) (calls : List Call) where
     in-place = λ p h. in-place n N p (committed-in p h);
     takes = takes;
     records = records;
+    records-range = records-range;
   }
 
 pub first-list-holds : FirstListHolds

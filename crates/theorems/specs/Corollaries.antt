@@ -1,7 +1,7 @@
 -- What follows from the first list of demand 3 and users will look for. The book b is the one that any list of calls from an opened book
 -- left, C the positions that the list has committed.
 --
---   Powerless b tick t    a session with the ticket t can neither commit nor release nor take at that tick
+--   Powerless b tick t    a session with the ticket t can neither commit, a position or a range, nor release nor take at that tick
 --   SameShare b b′ j      share j's entries are as they were
 --   Corollaries n k b C   the statements;  CorollariesHold, that they hold after every list of calls
 use mathlib.Core.Path.{_≡_}
@@ -18,12 +18,13 @@ use Rattle.book.specs.declared.types.Taking.the-variants.{Given}
 use Rattle.book.specs.declared.types.Committing.the-variants.{Committed}
 use Rattle.book.specs.declared.types.Releasing.the-variants.{Released}
 use Rattle.book.specs.Shares.{next, ticket, expiry, committed, holder, lapsed, first}
-use Rattle.book.specs.Calls.{open-answer, open-book, take-answer, commit-answer, release-answer, release-book}
+use Rattle.book.specs.Calls.{open-answer, open-book, take-answer, commit-answer, commit-range-answer, release-answer, release-book}
 use Rattle.book.specs.Holding.{ShareHolds}
 use Rattle.theorems.specs.FirstList.{Call, bookAfterAll, commits}
 
 pub record Powerless (b : Book) (tick t : ℕ) : Type 0 where
   pub no-commit : (p : ℕ) → commit-answer b tick t p ≢ Committed
+  pub no-range : (p q : ℕ) → commit-range-answer b tick t p q ≢ Committed
   pub no-release : release-answer b tick t ≢ Released
   pub no-take : (l0 l1 lw j p m : ℕ) → take-answer b tick t l0 l1 lw ≢ Given j p m
 

@@ -6,7 +6,7 @@
 --   Determined     a field for each operation
 -- Lists named a are as they were lent; lists named b are as they are handed back with the answer r, lists named c with the answer q.
 -- The remaining operations need no field, because their promises are equations with a function of what they were given: precedes and lesser
--- (crate words, Order), and open, claim, commit, release and report of the share book (crate book, Calls).
+-- (crate words, Order), and open, claim, commit, a range of commits, release and report of the share book (crate book, Calls).
 use mathlib.Core.Path.{_≡_}
 use mathlib.Core.Logic.{_↔_}
 use mathlib.Core.Bool.{Bool, true}

@@ -200,11 +200,12 @@ struct Calls {
     claim: fn(&mut Book, u64, u64, u64) -> Result<u64, u16>,
     take: fn(&mut Book, u64, u64, &mut [u16], &mut [u16], &mut [u16]) -> Result<kaldvemir::Taken, u16>,
     commit: fn(&mut Book, u64, u64, u64) -> Result<(), u16>,
+    commit_range: fn(&mut Book, u64, u64, u64, u64) -> Result<(), u16>,
 }
 
-const LIBRARY: Calls = Calls { claim: library::claim, take: library::take, commit: library::commit };
-const SAME: Calls = Calls { claim: same::book::claim, take: same::book::take, commit: same::book::commit };
-const TUNED: Calls = Calls { claim: tuned::book::claim, take: tuned::book::take, commit: tuned::book::commit };
+const LIBRARY: Calls = Calls { claim: library::claim, take: library::take, commit: library::commit, commit_range: library::commit_range };
+const SAME: Calls = Calls { claim: same::book::claim, take: same::book::take, commit: same::book::commit, commit_range: same::book::commit_range };
+const TUNED: Calls = Calls { claim: tuned::book::claim, take: tuned::book::take, commit: tuned::book::commit, commit_range: tuned::book::commit_range };
 
 /// One call on a copy of the book for each side; returns the book as the call left it.
 fn one_call(random: &mut Random, book: &Book, tick: u64) -> Book {
@@ -217,19 +218,21 @@ fn one_call(random: &mut Random, book: &Book, tick: u64) -> Book {
     let held = book.ticket.iter().position(|&t| t == ticket).unwrap_or(0);
     let position = book.next[held] + (random.below(8) == 0) as u64;
     let out = outputs(random, book.size as usize);
-    let call = random.below(3);
+    let last = [position.wrapping_sub(1), position, position + 1, position + random.below(9)][random.below(4) as usize];
+    let call = random.below(4);
     let by = |calls: Calls| {
         move |o: &mut Outputs| {
             let mut b = book.clone();
             let answer = match call {
                 0 => (calls.claim)(&mut b, tick, share, length).map(|ticket| [ticket, 0, 0]),
                 1 => (calls.take)(&mut b, tick, ticket, &mut o.s0, &mut o.s1, &mut o.word).map(|t| [t.share, t.position, t.length as u64]),
-                _ => (calls.commit)(&mut b, tick, ticket, position).map(|()| [0; 3]),
+                2 => (calls.commit)(&mut b, tick, ticket, position).map(|()| [0; 3]),
+                _ => (calls.commit_range)(&mut b, tick, ticket, position, last).map(|()| [0; 3]),
             };
             (answer, b)
         }
     };
-    let what = ["claim", "take", "commit"][call as usize];
+    let what = ["claim", "take", "commit", "commit range"][call as usize];
     agree(what, out.clone(), by(LIBRARY), by(SAME));
     agree(what, out.clone(), by(LIBRARY), by(TUNED));
     by(LIBRARY)(&mut out.clone()).1

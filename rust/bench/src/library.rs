@@ -67,3 +67,7 @@ pub fn take(book: &mut Book, tick: u64, ticket: u64, s0: &mut [u16], s1: &mut [u
 pub fn commit(book: &mut Book, tick: u64, ticket: u64, position: u64) -> Result<(), u16> {
     book.commit(tick, ticket, position).map_err(Refusal::number)
 }
+
+pub fn commit_range(book: &mut Book, tick: u64, ticket: u64, first: u64, last: u64) -> Result<(), u16> {
+    book.commit_range(tick, ticket, first, last).map_err(Refusal::number)
+}

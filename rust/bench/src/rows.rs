@@ -8,7 +8,7 @@ pub mod whole;
 use crate::timing::{Row, Work};
 
 /// The name of each row, and how it is set up.
-pub const ROWS: [(&str, fn() -> Row); 25] = [
+pub const ROWS: [(&str, fn() -> Row); 27] = [
     ("check 1024", given::check),
     ("read word 1024", given::read_word),
     ("relabel 1024", given::relabel_large),
@@ -26,6 +26,8 @@ pub const ROWS: [(&str, fn() -> Row); 25] = [
     ("claim 24, 4 shares", books::claim_4),
     ("take 24, 4 shares", books::take_4),
     ("commit 24, 4 shares", books::commit_4),
+    ("1,000 commits in one call", books::thousand_in_one_call),
+    ("1,000 commits one by one", books::thousand_one_by_one),
     ("whole list 20", whole::list_20),
     ("whole list 22", whole::list_22),
     ("whole list 20 with keep marks", whole::marked_20),

@@ -23,6 +23,7 @@ enum Call {
     Claim { tick: u64, share: u64, length: u64 },
     Take { tick: u64, ticket: u64, lists: Lists },
     Commit { tick: u64, ticket: u64, position: u64 },
+    CommitRange { tick: u64, ticket: u64, first: u64, last: u64 },
     Release { tick: u64, ticket: u64 },
     Report,
 }
@@ -49,6 +50,7 @@ fn by_library(book: &mut kaldvemir::Book, call: &Call) -> Answered {
             taken.map(|taken| Given::Position(taken.share, taken.position, taken.length))
         }
         Call::Commit { tick, ticket, position } => book.commit(*tick, *ticket, *position).map(|()| Given::Done),
+        Call::CommitRange { tick, ticket, first, last } => book.commit_range(*tick, *ticket, *first, *last).map(|()| Given::Done),
         Call::Release { tick, ticket } => book.release(*tick, *ticket).map(|()| Given::Done),
         Call::Report => book.report().map(|report| Given::Report(report.committed, report.complete)),
     };
@@ -65,6 +67,7 @@ fn by_reference(book: &mut Book, call: &Call) -> Answered {
             taken.map(|taken| Given::Position(taken.share, taken.position, taken.written.word.len()))
         }
         Call::Commit { tick, ticket, position } => book.commit(*tick, *ticket, *position).map(|()| Given::Done),
+        Call::CommitRange { tick, ticket, first, last } => book.commit_range(*tick, *ticket, *first, *last).map(|()| Given::Done),
         Call::Release { tick, ticket } => book.release(*tick, *ticket).map(|()| Given::Done),
         Call::Report => book.report().map(|report| Given::Report(report.committed, report.complete)),
     };
@@ -81,6 +84,9 @@ fn call(book: &mut Book, call: &Call, counts: &mut OutcomeCounts) -> Result<Opti
         Call::Claim { .. } => "claim",
         Call::Take { .. } => "take",
         Call::Commit { .. } => "commit",
+        Call::CommitRange { first, last, .. } if first > last => "empty range",
+        Call::CommitRange { ticket, first, last, .. } if past_end(&before, *ticket, *first, *last) => "range past end",
+        Call::CommitRange { .. } => "commit range",
         Call::Release { .. } => "release",
         Call::Report => "report",
     };
@@ -91,6 +97,23 @@ fn call(book: &mut Book, call: &Call, counts: &mut OutcomeCounts) -> Result<Opti
     });
     counts.compare(name, kind, &(&library, &reference_book(&other)), &(&reference, book), &(&before, call))?;
     Ok(reference.0.ok())
+}
+
+/// The share where a ticket stands.
+fn standing(book: &Book, ticket: u64) -> Option<usize> {
+    (0..32).find(|j| ticket != 0 && book.ticket[*j] == ticket)
+}
+
+/// The last position of a share of an opened book.
+fn last_of(book: &Book, share: u64) -> u64 {
+    let count = u128::from(reference::count(book.size).expect("an opened book"));
+    (u128::from(share) * count / u128::from(book.shares)) as u64
+}
+
+/// A range from the next position of the ticket's share on goes past the share's end.
+fn past_end(book: &Book, ticket: u64, first: u64, last: u64) -> bool {
+    let opened = reference::count(book.size).is_ok() && (1..=32).contains(&book.shares);
+    opened && standing(book, ticket).is_some_and(|j| first == book.next[j] && last > last_of(book, j as u64 + 1))
 }
 
 /// A book with anything in it, opened: a refused opening leaves it.
@@ -171,21 +194,38 @@ fn next_call(random: &mut Random, book: &Book, session: &Session, patience: u64)
         2 => book.ticket[random.below(32)],
         _ => newest,
     };
-    let stands = (0..32).find(|j| ticket != 0 && book.ticket[*j] == ticket);
-    match random.weighted(if stands.is_none() { &[8, 1, 2, 1, 1] } else { &[1, 3, 7, 1, 1] }) {
+    let stands = standing(book, ticket);
+    match random.weighted(if stands.is_none() { &[8, 1, 2, 1, 1, 1] } else { &[1, 3, 5, 1, 1, 3] }) {
         0 => Call::Claim { tick, share: share(random, book), length: length(random, patience) },
         1 => Call::Take { tick, ticket, lists: Lists::any(random, book.size as usize) },
         2 => {
-            let position = match (random.below(8), stands) {
-                (0, _) => random.near(&[session.position, session.position + 1]),
-                (1, Some(j)) => random.near(&[book.next[j]]),
-                (2, _) | (_, None) => session.position,
-                (_, Some(j)) => book.next[j],
-            };
+            let position = position(random, book, session, stands);
             Call::Commit { tick, ticket, position }
         }
         3 => Call::Release { tick, ticket },
-        _ => Call::Report,
+        4 => Call::Report,
+        _ => {
+            let first = position(random, book, session, stands);
+            let end = stands.map_or(first, |j| last_of(book, j as u64 + 1));
+            let last = match random.below(10) {
+                0 => random.near(&[first, end]),
+                1 => first.saturating_sub(random.between(1, 3)),
+                2 => end.wrapping_add(random.between(1, 3)),
+                3 | 4 => end,
+                _ => first.wrapping_add(random.between(0, 3)),
+            };
+            Call::CommitRange { tick, ticket, first, last }
+        }
+    }
+}
+
+/// The position of a commit, or the first one of a range: mostly the next one of the ticket's share.
+fn position(random: &mut Random, book: &Book, session: &Session, stands: Option<usize>) -> u64 {
+    match (random.below(8), stands) {
+        (0, _) => random.near(&[session.position, session.position + 1]),
+        (1, Some(j)) => random.near(&[book.next[j]]),
+        (2, _) | (_, None) => session.position,
+        (_, Some(j)) => book.next[j],
     }
 }
 
@@ -208,10 +248,8 @@ fn tick(random: &mut Random, book: &Book, patience: u64) -> u64 {
 
 /// A share: mostly one that is free and not finished.
 fn share(random: &mut Random, book: &Book) -> u64 {
-    let count = u128::from(reference::count(book.size).expect("an opened book"));
-    let last = |share: u64| (u128::from(share) * count / u128::from(book.shares)) as u64;
     let place = |share: u64| share as usize - 1;
-    let free = |share: &u64| book.ticket[place(*share)] == 0 && book.next[place(*share)] <= last(*share);
+    let free = |share: &u64| book.ticket[place(*share)] == 0 && book.next[place(*share)] <= last_of(book, *share);
     let free: Vec<u64> = (1..=book.shares).filter(free).collect();
     match random.below(12) {
         0 => random.near(&[0, book.shares]),

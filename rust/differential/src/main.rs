@@ -56,7 +56,7 @@ const COMPARISONS: [(Comparison, &[&str]); 22] = [
     (runs::begin_at, &["begin at"]),
     (runs::steps, &["step"]),
     (books::open, &["open"]),
-    (books::life, &["claim", "take", "commit", "release", "report"]),
+    (books::life, &["claim", "take", "commit", "commit range", "release", "report"]),
 ];
 
 /// The largest size that is run through whole.

@@ -21,7 +21,7 @@ pub struct Difference {
 pub type Compared = Result<(), Box<Difference>>;
 
 /// Every operation with the kinds of its accepted answers and its refusals: each is to be met.
-pub const OPERATIONS: [(&str, &[&str], &[u16]); 26] = [
+pub const OPERATIONS: [(&str, &[&str], &[u16]); 29] = [
     ("check", &["accepted"], GIVEN),
     ("all reached", &["yes", "no"], &[]),
     ("relabel", &["accepted"], &[1, 2, 3, 4, 5, 6, 7, 8, 9]),
@@ -46,6 +46,10 @@ pub const OPERATIONS: [(&str, &[&str], &[u16]); 26] = [
     ("claim", &["accepted"], &[50, 52, 53, 54, 55, 56, 57]),
     ("take", &["accepted"], &[50, 52, 58, 59, 9]),
     ("commit", &["accepted"], &[50, 52, 58, 59, 60]),
+    ("commit range", &["accepted"], &[50, 52, 58, 59, 60]),
+    // a range from the share's next position on that goes past its end, and one that is empty
+    ("range past end", &[], &[50, 52, 58, 59]),
+    ("empty range", &[], &[50, 52, 58, 59, 60]),
     ("release", &["accepted"], &[50, 52, 58, 59]),
     ("report", &["complete", "open"], &[50]),
 ];

@@ -80,6 +80,13 @@ impl Book {
         answered(raw::commit(self, tick, ticket, position))
     }
 
+    /// Commit the positions `first` to `last` of the ticket's share, as that many commits at that tick would, all of them or none; where one of them
+    /// would be refused, that refusal. Refuses 50; 52; 58, also where `last` is past the share's last position; 59; 60, also where `first` is above `last`.
+    #[inline]
+    pub fn commit_range(&mut self, tick: u64, ticket: u64, first: u64, last: u64) -> Result<(), Refusal> {
+        answered(raw::commit_range(self, tick, ticket, first, last))
+    }
+
     /// Release: the ticket's share is free. Refuses 50; 52; 58; 59.
     #[inline]
     pub fn release(&mut self, tick: u64, ticket: u64) -> Result<(), Refusal> {

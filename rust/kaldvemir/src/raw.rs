@@ -57,6 +57,7 @@ extern "C" {
         word: *mut u16, word_len: usize, share: *mut u64, position: *mut u64, length: *mut u64,
     ) -> u16;
     fn kaldvemir_commit(book: *mut Book, tick: u64, ticket: u64, position: u64) -> u16;
+    fn kaldvemir_commit_range(book: *mut Book, tick: u64, ticket: u64, first: u64, last: u64) -> u16;
     fn kaldvemir_release(book: *mut Book, tick: u64, ticket: u64) -> u16;
     fn kaldvemir_report(book: *const Book, committed: *mut u64, complete: *mut u64) -> u16;
 }
@@ -227,6 +228,11 @@ pub(crate) fn take(
 #[inline]
 pub(crate) fn commit(book: &mut Book, tick: u64, ticket: u64, position: u64) -> u16 {
     unsafe { kaldvemir_commit(book, tick, ticket, position) }
+}
+
+#[inline]
+pub(crate) fn commit_range(book: &mut Book, tick: u64, ticket: u64, first: u64, last: u64) -> u16 {
+    unsafe { kaldvemir_commit_range(book, tick, ticket, first, last) }
 }
 
 #[inline]

@@ -128,3 +128,22 @@ fn a_book_to_its_end() {
     assert_eq!(book.commit(11, late, 4), Err(Refusal::TicketAbsent));
     assert_eq!(book.report(), Ok(Report { committed: 8, complete: true }));
 }
+
+#[test]
+fn ranges_of_commits() {
+    let mut book = Book::blank();
+    book.open(4, 3).unwrap();
+    let ticket = book.claim(0, 2, 10).unwrap();
+    let before = book.clone();
+    // Share 2 holds 3 to 5. Past its end a commit finds the ticket ended.
+    assert_eq!((book.commit_range(1, ticket, 3, 6), book.commit_range(1, ticket, 4, 5)), (Err(Refusal::TicketAbsent), Err(Refusal::PositionNotNext)));
+    assert_eq!((book.commit_range(1, ticket, 3, 2), book.commit_range(10, ticket, 3, 4)), (Err(Refusal::PositionNotNext), Err(Refusal::TicketLapsed)));
+    assert_eq!(book, before);
+    // As two commits would.
+    let mut other = book.clone();
+    assert_eq!((other.commit(2, ticket, 3), other.commit(2, ticket, 4)), (Ok(()), Ok(())));
+    assert_eq!((book.commit_range(2, ticket, 3, 4), &book), (Ok(()), &other));
+    // To the share's last position: the ticket ends.
+    assert_eq!((book.commit_range(3, ticket, 5, 5), book.ticket[1], book.next[1]), (Ok(()), 0, 6));
+    assert_eq!(book.report(), Ok(Report { committed: 3, complete: false }));
+}

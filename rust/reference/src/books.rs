@@ -220,6 +220,31 @@ impl Book {
         Ok(())
     }
 
+    /// Commit a range, by its commits one after another on a copy: 50; 52; 58; 59; 60.
+    pub fn commit_range(&mut self, tick: u64, ticket: u64, first: u64, last: u64) -> Result<(), u16> {
+        let mut copy = self.clone();
+        if first > last {
+            copy.valid_at(tick)?;
+            copy.held(tick, ticket)?;
+            return Err(60);
+        }
+        let mut position = first;
+        loop {
+            copy.commit(tick, ticket, position)?;
+            if position == last {
+                break;
+            }
+            position += 1;
+            // Inside a share a commit only moves its next position on: of a long range these are passed over, but for the last few.
+            if let Ok(j) = copy.held(tick, ticket) {
+                position = position.max(last.min(copy.last(j)).saturating_sub(30));
+                copy.next[j] = position;
+            }
+        }
+        *self = copy;
+        Ok(())
+    }
+
     /// Release: 50; 52; 58; 59.
     pub fn release(&mut self, tick: u64, ticket: u64) -> Result<(), u16> {
         self.valid_at(tick)?;

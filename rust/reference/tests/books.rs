@@ -37,6 +37,23 @@ fn a_ticket_holds_until_its_expiry() {
     assert_eq!((book.latest, book.next[1], book.ticket[1], book.expiry[1]), (17, 5, 0, 0));
 }
 
+#[test]
+fn a_range_is_its_commits() {
+    let mut book = opened(7, 2);
+    assert_eq!((book.next[..2].to_vec(), book.claim(0, 1, 9)), (vec![1, 22], Ok(1)));
+    let before = book.clone();
+    assert_eq!((book.commit_range(1, 1, 1, 22), book.commit_range(1, 1, 2, 3), book.commit_range(1, 1, 2, 1)), (Err(58), Err(60), Err(60)));
+    assert_eq!((book.commit_range(9, 1, 2, 1), book.commit_range(1, 2, 2, 1), &book), (Err(59), Err(58), &before));
+    let mut other = book.clone();
+    (1..=4).for_each(|position| other.commit(1, 1, position).unwrap());
+    assert_eq!((book.commit_range(1, 1, 1, 4), &book), (Ok(()), &other));
+    assert_eq!((book.commit_range(1, 1, 5, 21), book.next[0], book.ticket[0]), (Ok(()), 22, 0));
+    // A range too long to be walked through.
+    let mut large = opened(50, 1);
+    large.claim(0, 1, 9).unwrap();
+    assert_eq!((large.commit_range(0, 1, 1, u64::MAX), large.commit_range(0, 1, 1, 1 << 40), large.next[0]), (Err(58), Ok(()), (1 << 40) + 1));
+}
+
 type Edit = fn(&mut Book);
 
 #[test]

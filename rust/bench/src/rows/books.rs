@@ -11,6 +11,11 @@ const CALLS: u64 = 30_000;
 type Claim = fn(&mut Book, u64, u64, u64) -> Result<u64, u16>;
 type Take = fn(&mut Book, u64, u64, &mut [u16], &mut [u16], &mut [u16]) -> Result<Taken, u16>;
 type Commit = fn(&mut Book, u64, u64, u64) -> Result<(), u16>;
+type CommitRange = fn(&mut Book, u64, u64, u64, u64) -> Result<(), u16>;
+
+/// How many positions a range commits, and how many ranges a piece of work has.
+const POSITIONS: u64 = 1_000;
+const RANGES: u64 = 100;
 
 pub fn opened(size: u64, shares: u64) -> Book {
     let mut book = Book::blank();
@@ -76,6 +81,33 @@ fn commit(name: &'static str, shares: u64) -> Row {
         }
     };
     row(name, CALLS, work(library::commit), work(same::book::commit), work(tuned::book::commit))
+}
+
+/// A thousand positions of a share, of each share in turn, by what commits the positions first to last.
+fn thousands<F: Fn(&mut Book, u64, u64, u64, u64) + 'static>(each: F) -> impl FnMut() -> u64 + 'static {
+    let start = claimed(4);
+    move || {
+        let mut book = start.clone();
+        for i in 0..RANGES {
+            let at = (i % 4) as usize;
+            let first = book.next[at];
+            each(black_box(&mut book), 2 + i, at as u64 + 1, first, first + POSITIONS - 1);
+        }
+        book.next.iter().sum::<u64>() + book.latest
+    }
+}
+
+/// The time is that of the thousand. There is no bar: the row beside it is the same work by single commits.
+pub fn thousand_in_one_call() -> Row {
+    let work = |f: CommitRange| thousands(move |book, tick, ticket, first, last| f(book, tick, ticket, first, last).unwrap());
+    let row = row("1,000 commits in one call", RANGES, work(library::commit_range), work(same::book::commit_range), work(tuned::book::commit_range));
+    Row { bar: None, ..row }
+}
+
+pub fn thousand_one_by_one() -> Row {
+    let work = |f: Commit| thousands(move |book, tick, ticket, first, last| (first..=last).for_each(|position| f(book, tick, ticket, position).unwrap()));
+    let row = row("1,000 commits one by one", RANGES, work(library::commit), work(same::book::commit), work(tuned::book::commit));
+    Row { bar: None, ..row }
 }
 
 pub fn claim_32() -> Row {

@@ -1,4 +1,4 @@
-//! The share book's claim, take and commit, on the book in its place. Condition 50 is tested share by share.
+//! The share book's claim, take, commit and range of commits, on the book in its place. Condition 50 is tested share by share.
 use super::positions::diagram_at;
 use kaldvemir::Taken;
 use kaldvemir::Book;
@@ -110,6 +110,23 @@ pub fn commit(book: &mut Book, tick: u64, ticket: u64, position: u64) -> Result<
     }
     book.latest = tick;
     book.next[i] += 1;
+    if finished(book, i) {
+        book.ticket[i] = 0;
+        book.expiry[i] = 0;
+    }
+    Ok(())
+}
+
+pub fn commit_range(book: &mut Book, tick: u64, ticket: u64, first: u64, last: u64) -> Result<(), u16> {
+    let i = standing(book, tick, ticket)?;
+    if last < first || book.next[i] != first {
+        return Err(60);
+    }
+    if last > last_of(count_of(book.size as usize), book.shares, i as u64 + 1) {
+        return Err(58);
+    }
+    book.latest = tick;
+    book.next[i] = last + 1;
     if finished(book, i) {
         book.ticket[i] = 0;
         book.expiry[i] = 0;

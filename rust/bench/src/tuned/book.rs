@@ -1,4 +1,4 @@
-//! The share book's claim, take and commit, on the book in its place.
+//! The share book's claim, take, commit and range of commits, on the book in its place.
 use super::positions::diagram_at;
 use kaldvemir::Taken;
 use kaldvemir::Book;
@@ -166,6 +166,24 @@ pub fn commit(book: &mut Book, tick: u64, ticket: u64, position: u64) -> Result<
     book.latest = tick;
     book.next[i] = position + 1;
     if position + 1 > last_of(book, i + 1) {
+        book.ticket[i] = 0;
+        book.expiry[i] = 0;
+    }
+    Ok(())
+}
+
+pub fn commit_range(book: &mut Book, tick: u64, ticket: u64, first: u64, last: u64) -> Result<(), u16> {
+    let i = standing(book, tick, ticket)?;
+    if last < first || book.next[i] != first {
+        return Err(60);
+    }
+    let end = last_of(book, i + 1);
+    if last > end {
+        return Err(58);
+    }
+    book.latest = tick;
+    book.next[i] = last + 1;
+    if last == end {
         book.ticket[i] = 0;
         book.expiry[i] = 0;
     }

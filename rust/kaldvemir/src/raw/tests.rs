@@ -136,6 +136,7 @@ fn refused_book_calls() {
             assert_eq!(claim(&mut book, tick, 0, 1, &mut out), claimed);
             assert_eq!(take(&mut book, tick, 1, s0, s1, word, &mut values), number);
             assert_eq!(commit(&mut book, tick, 1, 1), number);
+            assert_eq!((commit_range(&mut book, tick, 1, 1, 2), commit_range(&mut book, tick, 1, 2, 1)), (number, number));
             assert_eq!(release(&mut book, tick, 1), number);
             assert_eq!(book, before);
         }
@@ -143,7 +144,7 @@ fn refused_book_calls() {
     let mut book = book();
     let before = book.clone();
     assert_eq!((open(&mut book, 51, 1), open(&mut book, 50, 33), claim(&mut book, 0, 1, 0, &mut out)), (31, 51, 54));
-    assert_eq!((commit(&mut book, 0, 0, 1), release(&mut book, 0, 9)), (58, 58));
+    assert_eq!((commit(&mut book, 0, 0, 1), commit_range(&mut book, 0, 0, 1, 1), release(&mut book, 0, 9)), (58, 58, 58));
     assert_eq!(report(&Book::blank(), &mut out, &mut other), 50);
     assert_eq!((book, out, other, values, lists), (before, WIDE, WIDE, [WIDE; 3], [[MARK; 5]; 3]));
 }
