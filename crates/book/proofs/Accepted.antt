@@ -22,28 +22,28 @@ zero-unless false k rest h e = absurd (omega arith)
 
 -- ---- the share where a ticket stands
 
-pub record Stands (b : Book) (t j : ℕ) : Type 0 where
+pub record TicketAt (b : Book) (t j : ℕ) : Type 0 where
   pub share-in : OneTo (b .shares) j
   pub some : t ≢ 0
   pub is : ticket b j ≡ t
 
-stands-below : (b : Book) (t m : ℕ) → standing b t m ≢ 0 → OneTo m (standing b t m) × (ticket b (standing b t m) ≡ t)
-stands-below b t zero n = absurd (n refl)
-stands-below b t (suc m) n = go (same? (ticket b (suc m)) t) (stands-below b t m)
+ticket-below : (b : Book) (t m : ℕ) → standing b t m ≢ 0 → OneTo m (standing b t m) × (ticket b (standing b t m) ≡ t)
+ticket-below b t zero n = absurd (n refl)
+ticket-below b t (suc m) n = go (same? (ticket b (suc m)) t) (ticket-below b t m)
   where
     go : (ticket b (suc m) ≡ t) ⊎ (ticket b (suc m) ≢ t) → (standing b t m ≢ 0 → OneTo m (standing b t m) × (ticket b (standing b t m) ≡ t))
         → OneTo (suc m) (standing b t (suc m)) × (ticket b (standing b t (suc m)) ≡ t)
     go (inl e) r = rw (eqb-eq _ _ e) (omega arith, e)
     go (inr e) r = rw (eqb-ne _ _ e) (let q = r (rw (eqb-ne _ _ e) at n) in (omega arith, q .1))
 
-pub holder-stands : (b : Book) (t : ℕ) → holder b t ≢ 0 → Stands b t (holder b t)
+pub holder-has-ticket : (b : Book) (t : ℕ) → holder b t ≢ 0 → TicketAt b t (holder b t)
 unfolding holder
-holder-stands b t n = go (same? t 0)
+holder-has-ticket b t n = go (same? t 0)
   where
-    go : (t ≡ 0) ⊎ (t ≢ 0) → Stands b t (cond (eqb t 0) 0 (standing b t (b .shares)))
+    go : (t ≡ 0) ⊎ (t ≢ 0) → TicketAt b t (cond (eqb t 0) 0 (standing b t (b .shares)))
     go (inl e) = absurd (n (rw (eqb-eq _ _ e)))
     go (inr e) =
-        let q = stands-below b t (b .shares) (rw (eqb-ne _ _ e) at n) in
+        let q = ticket-below b t (b .shares) (rw (eqb-ne _ _ e) at n) in
         rw (eqb-ne _ _ e) record { share-in = q .0; some = e; is = q .1 }
 
 -- ---- take, commit, release
@@ -52,7 +52,7 @@ pub record TicketGood (b : Book) (tick t : ℕ) : Type 0 where
   pub is-valid : ValidBook b
   pub later : b .latest ≤ tick
   pub tick-small : tick < 2 ^ 48
-  pub stands : Stands b t (holder b t)
+  pub stands : TicketAt b t (holder b t)
   pub unlapsed : tick < expiry b (holder b t)
 
 pub tick-facts : (b : Book) (tick : ℕ) → tick-in b tick ≡ true → (b .latest ≤ tick) × (tick < 2 ^ 48)
@@ -71,14 +71,14 @@ ticket-good b tick t rest e =
         is-valid = valid-facts b (q .0);
         later = f .0;
         tick-small = f .1;
-        stands = holder-stands b t (eqb-false _ _ (not-true _ (s .0)));
+        stands = holder-has-ticket b t (eqb-false _ _ (not-true _ (s .0)));
         unlapsed = leb-false _ _ (not-true _ (u .0));
       },
       u .1,
     )
 
 -- a share with a ticket is not finished
-pub ticket-unfinished : (b : Book) (t j : ℕ) → ValidBook b → Stands b t j → next b j ≤ last (b .size) (b .shares) j
+pub ticket-unfinished : (b : Book) (t j : ℕ) → ValidBook b → TicketAt b t j → next b j ≤ last (b .size) (b .shares) j
 ticket-unfinished b t j S T = go (lt? (last (b .size) (b .shares) j) (next b j))
   where
     go : (last (b .size) (b .shares) j < next b j) ⊎ (next b j ≤ last (b .size) (b .shares) j) → next b j ≤ last (b .size) (b .shares) j
@@ -86,7 +86,7 @@ ticket-unfinished b t j S T = go (lt? (last (b .size) (b .shares) j) (next b j))
     go (inr l) = l
 
 -- two shares with one ticket are one share
-pub ticket-distinct : (b : Book) (t j : ℕ) → ValidBook b → Stands b t j → (i : ℕ) → OneTo (b .shares) i → i ≢ j → ticket b i ≢ t
+pub ticket-distinct : (b : Book) (t j : ℕ) → ValidBook b → TicketAt b t j → (i : ℕ) → OneTo (b .shares) i → i ≢ j → ticket b i ≢ t
 ticket-distinct b t j S T i e n q = go (lt? i j)
   where
     go : (i < j) ⊎ (j ≤ i) → ⊥

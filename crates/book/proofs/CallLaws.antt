@@ -17,7 +17,7 @@ use Rattle.book.specs.declared.types.Taking.the-variants as taking
 use Rattle.book.specs.declared.types.Committing.{Committing}
 use Rattle.book.specs.declared.types.Committing.the-variants as committing
 use Rattle.book.specs.Shares.{first, last, next, ticket, expiry, finished, holder}
-use Rattle.book.specs.Calls.{unless, entered, ticked, claim-number, claim-book, due, room, take-number, take-answer, take-book, commit-number, commit-answer, commit-book, movedOn, movedTo, release-number, release-book, ticket-number}
+use Rattle.book.specs.Calls.{unless, entered, ticked, claim-number, claim-book, due, lists-hold, take-number, take-answer, take-book, commit-number, commit-answer, commit-book, movedOn, movedTo, release-number, release-book, ticket-number}
 use Rattle.book.proofs.ValidBook.{ValidBook, Long, Fitting, entered-valid, entered-long, entered-next, other-next, ticked-valid}
 use Rattle.book.proofs.Accepted.{zero-unless, TicketGood, ticket-good, ticket-unfinished, freed, kept-on, ClaimGood, claim-good, claim-fits}
 use Rattle.book.proofs.Ledger.{Ledger, ledger-same, ledger-more}
@@ -57,7 +57,7 @@ module _ (n k : ℕ) (b : Book) (C : List ℕ) (L : Ledger n k b C) where
       accepted G = unfold ticked in (ledger-same n k b (ticked b tick) C L refl refl (ticked-valid b tick (G .later) (G .tick-small) (L .is-valid)) record { next-long = L .long .next-long; ticket-long = L .long .ticket-long; expiry-long = L .long .expiry-long } (λ j e. refl))
 
       go : (take-number b tick t l0 l1 lw ≡ 0) ⊎ (take-number b tick t l0 l1 lw ≢ 0) → Ledger n k (cond (eqb (take-number b tick t l0 l1 lw) 0) (ticked b tick) b) C
-      go (inl e) = rw (eqb-eq _ _ e) (accepted (ticket-good b tick t (unless (room (b .size) l0 l1 lw) 9 0) (unfold take-number in e) .0))
+      go (inl e) = rw (eqb-eq _ _ e) (accepted (ticket-good b tick t (unless (lists-hold (b .size) l0 l1 lw) 9 0) (unfold take-number in e) .0))
       go (inr e) = rw (eqb-ne _ _ e) L
 
   pub ledger-release : (tick t : ℕ) → Ledger n k (release-book b tick t) C
@@ -159,5 +159,5 @@ module _ (b : Book) where
       go : (take-number b tick t l0 l1 lw ≡ 0) ⊎ (take-number b tick t l0 l1 lw ≢ 0) → TakeGood tick t l0 l1 lw j p m
       go (inl q) =
           let r = rw (eqb-eq _ _ q) at e in
-          record { number = q; good = ticket-good b tick t (unless (room (b .size) l0 l1 lw) 9 0) (unfold take-number in q) .0; share-is = cc; position-is = cc; length-is = cc }
+          record { number = q; good = ticket-good b tick t (unless (lists-hold (b .size) l0 l1 lw) 9 0) (unfold take-number in q) .0; share-is = cc; position-is = cc; length-is = cc }
       go (inr q) = absurd (let r = rw (eqb-ne _ _ q) at e in let z : _≡_ {A = ℕ} 0 1 = cc in omega arith)

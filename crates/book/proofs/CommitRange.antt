@@ -17,7 +17,7 @@ use Rattle.book.specs.Shares.{first, last, next, ticket, expiry, finishe
 use Rattle.book.specs.Valid.{valid}
 use Rattle.book.specs.Calls.{unless, not, entered, tick-in, ticket-number, due, movedTo, movedOn, commit-number, commit-book, commits-number, commits-book, positions, commit-range-number, commit-range-answer, commit-range-book, range-number}
 use Rattle.book.proofs.ValidBook.{ValidBook, Long, facts-valid, entered-next, entered-ticket, entered-expiry, entered-long, other-ticket, entered-valid}
-use Rattle.book.proofs.Accepted.{zero-unless, Stands, holder-stands, TicketGood, ticket-good, ticket-unfinished, ticket-distinct, freed, kept-on}
+use Rattle.book.proofs.Accepted.{zero-unless, TicketAt, holder-has-ticket, TicketGood, ticket-good, ticket-unfinished, ticket-distinct, freed, kept-on}
 use Rattle.book.proofs.Tickets.{Nowhere, holder-nowhere, nowhere-holder, Gone, gone-commit}
 use Rattle.book.proofs.Ledger.{Ledger}
 use Rattle.book.proofs.CallLaws.{ledger-commit}
@@ -25,7 +25,7 @@ use Rattle.book.proofs.CallLaws.{ledger-commit}
 -- ---- a ticket that is good
 
 -- the share where a ticket stands is its holder
-holder-is : (b : Book) (t j : ℕ) → ValidBook b → Stands b t j → holder b t ≡ j
+holder-is : (b : Book) (t j : ℕ) → ValidBook b → TicketAt b t j → holder b t ≡ j
 unfolding Nowhere
 holder-is b t j S T = go (same? (holder b t) 0) (same? (holder b t) j)
   where
@@ -36,7 +36,7 @@ holder-is b t j S T = go (same? (holder b t) 0) (same? (holder b t) j)
     go : (holder b t ≡ 0) ⊎ (holder b t ≢ 0) → (holder b t ≡ j) ⊎ (holder b t ≢ j) → holder b t ≡ j
     go (inl z) q = absurd (some (holder-nowhere b t z))
     go (inr z) (inl q) = q
-    go (inr z) (inr q) = let H = holder-stands b t z in absurd (ticket-distinct b t j S T (holder b t) (H .share-in) q (H .is))
+    go (inr z) (inr q) = let H = holder-has-ticket b t z in absurd (ticket-distinct b t j S T (holder b t) (H .share-in) q (H .is))
 
 -- a valid book at a tick in time: what its tickets are asked for
 timely : (b : Book) (tick t rest : ℕ) → ValidBook b → b .latest ≤ tick → tick < 2 ^ 48
@@ -125,7 +125,7 @@ module _ (b : Book) (tick t : ℕ) (L : Long b) (G : TicketGood b tick t) where
     on-valid : ValidBook on
     on-valid = entered-valid b tick (b .issued) j after own until L good-in (G .is-valid) (kept-on b tick t G after (let y = good-from in omega arith) l)
 
-    on-stands : Stands on t j
+    on-stands : TicketAt on t j
     on-stands = record {
       share-in = unfold entered in (G .stands .share-in);
       some = G .stands .some;

@@ -45,7 +45,7 @@ use Rattle.book.specs.declared.types.Book.{Book}
 use Rattle.book.proofs.types.Book as B
 use Rattle.book.proofs.types.Book.Laws as B′
 use Rattle.book_lent_walks.proofs.Calling.{calling}
-use Rattle.book_lent_walks.proofs.Numbers.{Ks, locs, after, opds, slots, us, Nums, spells, uvals, tells-all, Good, owned-all, quiet, same, drops, go-all, good, fit-all, had-all, ats, at-after, found, alloc-all, pass-all, free-all, reads}
+use Rattle.book_lent_walks.proofs.Numbers.{Ks, locs, localAfter, opds, slots, us, Nums, spells, uvals, tells-all, Good, owned-all, quiet, same, drops, go-all, good, fit-all, had-all, ats, at-local-after, found, alloc-all, pass-all, free-all, reads}
 use Rattle.book_lent_walks.proofs.Shape.{Shape, Made, bval, resTy}
 use Rattle.book_lent_walks.proofs.Thin.{core-ended, thin-ended}
 
@@ -56,13 +56,13 @@ abbrev pub lend-code : Ks → Ty → Ty → Name → Fn
 lend-code ks aTy rTy f = record {
   lifetimes = 0;
   outlives = [];
-  params = suc (after ks 0);
+  params = suc (localAfter ks 0);
   locals = local rTy valueLocal ∷ local B′.mir valueLocal ∷ locs ks (local B′.mir memorySlot ∷ local aTy valueLocal ∷ local (tyRef erased mut (pointee (B.the-row .written))) valueLocal ∷ local B′.mir valueLocal ∷ []);
-  body = seq (assign (place (suc (suc (after ks 0))) []) (rvOpd (copy (place 1 []))))
-      (seq (assign (place (suc (suc (after ks 2))) []) (addrOf (place (suc (suc (after ks 0))) [])))
-      (seq (call f (copy (place (suc (suc (after ks 2))) []) ∷ opds ks 2) (place (suc (suc (after ks 1))) []))
-      (seq (assign (place (suc (suc (after ks 3))) []) (rvOpd (copy (place (suc (suc (after ks 0))) []))))
-      (seq (assign (place 0 []) (aggregate (copy (place (suc (suc (after ks 1))) []) ∷ copy (place (suc (suc (after ks 3))) []) ∷ []))) return))));
+  body = seq (assign (place (suc (suc (localAfter ks 0))) []) (rvOpd (copy (place 1 []))))
+      (seq (assign (place (suc (suc (localAfter ks 2))) []) (addrOf (place (suc (suc (localAfter ks 0))) [])))
+      (seq (call f (copy (place (suc (suc (localAfter ks 2))) []) ∷ opds ks 2) (place (suc (suc (localAfter ks 1))) []))
+      (seq (assign (place (suc (suc (localAfter ks 3))) []) (rvOpd (copy (place (suc (suc (localAfter ks 0))) []))))
+      (seq (assign (place 0 []) (aggregate (copy (place (suc (suc (localAfter ks 1))) []) ∷ copy (place (suc (suc (localAfter ks 3))) []) ∷ []))) return))));
 }
 
 abbrev stayed : (ks : Ks) (R : RattleType) → Stays (core-ended ks R .signature .params) (core-ended ks R .kept)
@@ -137,26 +137,26 @@ module _ (S : Shape) (Z : Made S) (ks : Ks) {M : Type 1} (𝓤 : URA M) (H : Hea
           alloc1 ! (λ l₀. alloc1 ! (λ l₁. alloc-all ! ks (λ bs. alloc1 ! (λ l₅. alloc1 ! (λ l₆. alloc1 ! (λ l₇. alloc1 ! (λ l₈. alloc0 ! $ params1 ! $
           pass1 ! (init ! 9 refl (LL.lawful B.the-type B′.the-laws 𝓤 H A W .typed h (bvals h) was .0)) $ move ! (8 ∷ []) $ pass-all ! 0 tt ks n ok bs (rest l₅ l₆ l₇ l₈) (
           -- [the numbers; _tmp; …; _ref; …; _ans; …; _book; …; _1; …; room for _0; …; what was passed; the requires]
-          assigns ! (of-opd ! (load ! (from ! (stop !)) (look ! 9 refl))) (found ! (at-after 𝓤 H (rest l₅ l₆ l₇ l₈) ks bs 0) (stop !)) (init ! 7 refl (LL.lawful B.the-type B′.the-laws 𝓤 H A W .typed h (bvals h) was .0)) $
-          assigns ! (addr ! (found ! (at-after 𝓤 H (rest l₅ l₆ l₇ l₈) ks bs 0) (stop !))) (found ! (at-after 𝓤 H (rest l₅ l₆ l₇ l₈) ks bs 2) (stop !)) (init ! 3 refl (tt, tt)) $
+          assigns ! (of-opd ! (load ! (from ! (stop !)) (look ! 9 refl))) (found ! (at-local-after 𝓤 H (rest l₅ l₆ l₇ l₈) ks bs 0) (stop !)) (init ! 7 refl (LL.lawful B.the-type B′.the-laws 𝓤 H A W .typed h (bvals h) was .0)) $
+          assigns ! (addr ! (found ! (at-local-after 𝓤 H (rest l₅ l₆ l₇ l₈) ks bs 0) (stop !))) (found ! (at-local-after 𝓤 H (rest l₅ l₆ l₇ l₈) ks bs 2) (stop !)) (init ! 3 refl (tt, tt)) $
           -- the book is lent for a lifetime ν of the call
           move ! (7 ∷ []) $ use1 W (‵ (mem B.the-row .lies h l₅ 0)) (lies-in 𝓤 H A W h l₅ 0 was) $ lft-new ! tt (λ ν. move ! (1 ∷ []) $
           use1 W (later (some (λ (γ : GName). ‵ (MutRef (named 0) (ν ∷ []) B.the-row .own (ref l₅ 0 γ h) (vptr l₅ 0 ∷ [])) ⊛ ‵ (flent (ν ∷ []) (Body (mem B.the-row) l₅ 0 γ))))) (lends-ref 𝓤 H A W B.the-row (named 0) (ν ∷ []) h l₅ 0) $ await ! tt $ pick ! (λ γ. split ! $
           -- [the reference; the lender's part; the token; the numbers; _tmp; …; _ref; …; _ans; …; (what frees _book); _1; …; room for _0; …; what was passed; the requires]
           move ! (2 ∷ 0 ∷ 16 ∷ []) $ use3 W (raw (Thin .pre (to-thin l₅ ν γ))) (goes-thin l₅ ν γ) $
-          calls-at ! fm Thin known (to-thin l₅ ν γ) (and-then ! (load ! (found ! (at-after 𝓤 H (rest l₅ l₆ l₇ l₈) ks bs 2) (stop !)) (look ! 5 refl)) (reads 0 tt 1 (ν ∷ [], tt) ! 2 ks n bs 2 refl (ats 𝓤 H (resTy S, l₀) (B′.mir, l₁) (rest l₅ l₆ l₇ l₈) ks bs))) (λ v.
+          calls-at ! fm Thin known (to-thin l₅ ν γ) (and-then ! (load ! (found ! (at-local-after 𝓤 H (rest l₅ l₆ l₇ l₈) ks bs 2) (stop !)) (look ! 5 refl)) (reads 0 tt 1 (ν ∷ [], tt) ! 2 ks n bs 2 refl (ats 𝓤 H (resTy S, l₀) (B′.mir, l₁) (rest l₅ l₆ l₇ l₈) ks bs))) (λ v.
           use1 W (later (some (λ (y : S .ans .Denot). ((‵ (flft (ν ∷ []) fullShare) ⊛ ‵ ftrue) ⊛ ‵ (S .ans .own y (v ∷ []))) ⊛ raw (ensured 𝓤 H A (thin-ended ks (S .ans)) cc (ν ∷ [], tt) (ref l₅ 0 γ h, n₁ ν) (hands (h, n) g (ν ∷ [], tt) l₅ 0 γ .0) y)))) (id⊢ 𝓤 _) $ await ! tt $ pick ! (λ y.
           -- what the thin function ensures, at some last book
           split ! $ move ! (1 ∷ []) $ use1 W (some (λ (ws : Lasts (thin-ended ks (S .ans)) (ν ∷ [], tt) (ref l₅ 0 γ h, n₁ ν)). ‵ (lasts (thin-ended ks (S .ans)) (ν ∷ [], tt) (ref l₅ 0 γ h, n₁ ν) ws) ⊛ raw (cc (ν ∷ [], tt) (ref l₅ 0 γ h, n₁ ν) .ensures (hands (h, n) g (ν ∷ [], tt) l₅ 0 γ .0) y (atExit (thin-ended ks (S .ans)) (ν ∷ [], tt) (ref l₅ 0 γ h, n₁ ν) ws)))) (id⊢ 𝓤 _) $ pick ! (λ ws.
           split ! $ fsplit ! $ move ! (2 ∷ []) $ use1 W (raw (ens (Z .make y (ws .0)))) (hands (h, n) g (ν ∷ [], tt) l₅ 0 γ .1 .1 y ws) $
           move ! (3 ∷ []) $ split ! $ split ! $ move ! (2 ∷ []) $ peeks ! (S .ans) (Is (S .ans)) (shows 𝓤 H A (S .ans)) y (v ∷ []) (λ is. drop ! $
           -- [the token; true; the ensures; the last book's res; …; the lender's part; the numbers; _tmp; …; _ref; …; _ans; …; (what frees _book); …]
-          land ! (found ! (at-after 𝓤 H (rest l₅ l₆ l₇ l₈) ks bs 1) (stop !)) (init ! 11 refl (S .ans-typed 𝓤 H A W y v is)) $ rewrite ! 11 (λ (u : Val). ‵ (fat fullShare (S .ansTy) l₆ 0 u)) (ap only (Z .tells y (v ∷ []) is)) refl $
+          land ! (found ! (at-local-after 𝓤 H (rest l₅ l₆ l₇ l₈) ks bs 1) (stop !)) (init ! 11 refl (S .ans-typed 𝓤 H A W y v is)) $ rewrite ! 11 (λ (u : Val). ‵ (fat fullShare (S .ansTy) l₆ 0 u)) (ap only (Z .tells y (v ∷ []) is)) refl $
           -- the lifetime is ended, and the book lies in its local again
           lft-end ! tt $ move ! (0 ∷ 5 ∷ 3 ∷ []) $ use3 W (later (‵ (mem B.the-row .lies (ws .0) l₅ 0))) (ref-back 𝓤 H A W B.the-row (ν ∷ []) γ (ws .0) l₅ 0) $ await ! tt $ lies-out ! (ws .0) l₅ 0 (λ has.
           -- [_book; true; the ensures; …; the numbers; _tmp; …; _ref; …; _ans; …; (what frees _book); _1; …; room for _0; …; what was passed]
-          assigns ! (of-opd ! (load ! (found ! (at-after 𝓤 H (rest l₅ l₆ l₇ l₈) ks bs 0) (stop !)) (look ! 0 refl))) (found ! (at-after 𝓤 H (rest l₅ l₆ l₇ l₈) ks bs 3) (stop !)) (init ! 5 refl (LL.lawful B.the-type B′.the-laws 𝓤 H A W .typed (ws .0) (bvals (ws .0)) has .0)) $
-          assigns ! (agg ! (and-then ! (load ! (found ! (at-after 𝓤 H (rest l₅ l₆ l₇ l₈) ks bs 1) (stop !)) (look ! 9 refl)) (and-then ! (load ! (found ! (at-after 𝓤 H (rest l₅ l₆ l₇ l₈) ks bs 3) (stop !)) (look ! 5 refl)) (no-more !)))) (from ! (stop !)) (init ! 14 refl (S .res-typed 𝓤 H A W (Z .make y (ws .0)) (rval y (ws .0)) (Z .made y v (ws .0) is has))) $
+          assigns ! (of-opd ! (load ! (found ! (at-local-after 𝓤 H (rest l₅ l₆ l₇ l₈) ks bs 0) (stop !)) (look ! 0 refl))) (found ! (at-local-after 𝓤 H (rest l₅ l₆ l₇ l₈) ks bs 3) (stop !)) (init ! 5 refl (LL.lawful B.the-type B′.the-laws 𝓤 H A W .typed (ws .0) (bvals (ws .0)) has .0)) $
+          assigns ! (agg ! (and-then ! (load ! (found ! (at-local-after 𝓤 H (rest l₅ l₆ l₇ l₈) ks bs 1) (stop !)) (look ! 9 refl)) (and-then ! (load ! (found ! (at-local-after 𝓤 H (rest l₅ l₆ l₇ l₈) ks bs 3) (stop !)) (look ! 5 refl)) (no-more !)))) (from ! (stop !)) (init ! 14 refl (S .res-typed 𝓤 H A W (Z .make y (ws .0)) (rval y (ws .0)) (Z .made y v (ws .0) is has))) $
           returns ! (look ! 14 refl) $ forget ! 0 refl $ forget ! 5 refl $ forget ! 7 refl $ forget ! 9 refl $ forget ! 12 refl $ forget ! 14 refl $
           move ! (14 ∷ 15 ∷ []) $ free1 ! $ move ! (12 ∷ 13 ∷ []) $ free1 ! $ move ! (4 ∷ []) $ free-all ! 0 tt ks n bs (
           move ! (0 ∷ 10 ∷ []) $ free1 ! $ move ! (7 ∷ 8 ∷ []) $ free1 ! $ move ! (5 ∷ 6 ∷ []) $ free1 ! $ move ! (3 ∷ 4 ∷ []) $ free1 ! $ free0 ! $

@@ -42,7 +42,7 @@ use Rattle.book.specs.declared.types.Book.{Book}
 use Rattle.book.proofs.types.Book as B
 use Rattle.book.proofs.types.Book.Laws as B′
 use Rattle.book_lent_walks.proofs.Calling.{calling}
-use Rattle.book_lent_walks.proofs.Numbers.{Ks, locs, after, opds, slots, us, Nums, spells, uvals, tells-all, Good, owned-all, quiet, same, drops, go-all, good, fit-all, had-all, ats, at-after, found, alloc-all, pass-all, free-all, reads}
+use Rattle.book_lent_walks.proofs.Numbers.{Ks, locs, localAfter, opds, slots, us, Nums, spells, uvals, tells-all, Good, owned-all, quiet, same, drops, go-all, good, fit-all, had-all, ats, at-local-after, found, alloc-all, pass-all, free-all, reads}
 use Rattle.book_lent_walks.proofs.Shape.{bval}
 use Rattle.book_lent_walks.proofs.Thin.{core-ended}
 
@@ -50,9 +50,9 @@ abbrev pub look-code : Ks → Ty → Name → Fn
 look-code ks rTy f = record {
   lifetimes = 1;
   outlives = [];
-  params = suc (after ks 0);
+  params = suc (localAfter ks 0);
   locals = local rTy valueLocal ∷ local (tyRef (named 0) imm (pointee (B.the-row .written))) valueLocal ∷ locs ks (local B′.mir valueLocal ∷ []);
-  body = seq (assign (place (suc (suc (after ks 0))) []) (rvOpd (copy (place 1 (deref B′.mir ∷ []))))) (seq (call f (copy (place (suc (suc (after ks 0))) []) ∷ opds ks 2) (place 0 [])) return);
+  body = seq (assign (place (suc (suc (localAfter ks 0))) []) (rvOpd (copy (place 1 (deref B′.mir ∷ []))))) (seq (call f (copy (place (suc (suc (localAfter ks 0))) []) ∷ opds ks 2) (place 0 [])) return);
 }
 
 -- its signature
@@ -119,11 +119,11 @@ module _ (ks : Ks) (R : RattleType) (rTy : Ty) {M : Type 1} (𝓤 : URA M) (H : 
             move ! (7 ∷ 8 ∷ []) $ looks ! tt B.the-row (Is B.the-row) (shows 𝓤 H A B.the-row) bvals (LL.tells B.the-type B′.the-laws) (LL.copy B.the-type B′.the-copy 𝓤 H A W) h b o (λ q′ vs.
             spelt ! B.the-row (Is B.the-row) (shows 𝓤 H A B.the-row) bvals (LL.tells B.the-type B′.the-laws) q′ h vs b o $ move ! (1 ∷ []) $ peeks ! B.the-row (Is B.the-row) (shows 𝓤 H A B.the-row) h (bvals h) (λ was. move ! (1 ∷ 0 ∷ []) $
             -- [a share of the book's cell; what a Book owns; what shuts it; the borrow; the numbers; _tmp; …; _1; …; room for _0; …; res; the requires]
-            assigns ! (of-opd ! (load ! (from ! (hop ! (look ! 7 refl) (stop !))) (look-raw ! 0 refl))) (found ! (at-after 𝓤 H ((B′.mir, l₂) ∷ []) ks bs 0) (stop !)) (init ! 5 refl (LL.lawful B.the-type B′.the-laws 𝓤 H A W .typed h (bvals h) was .0)) $
+            assigns ! (of-opd ! (load ! (from ! (hop ! (look ! 7 refl) (stop !))) (look-raw ! 0 refl))) (found ! (at-local-after 𝓤 H ((B′.mir, l₂) ∷ []) ks bs 0) (stop !)) (init ! 5 refl (LL.lawful B.the-type B′.the-laws 𝓤 H A W .typed h (bvals h) was .0)) $
             shuts ! tt B.the-row q′ h (bvals h) b o $
             -- [the token; the borrow; the numbers; _tmp; …; _1; …; room for _0; …; res; the requires]
             move ! (10 ∷ []) $ use1 W (raw (Core .pre to-core)) (goes-core was) $
-            calls-at ! fm Core known to-core (and-then ! (load ! (found ! (at-after 𝓤 H ((B′.mir, l₂) ∷ []) ks bs 0) (stop !)) (look ! 4 refl)) (reads 1 (κ, tt) 0 tt ! 3 ks n bs 2 refl (ats 𝓤 H (rTy, l₀) (tyRef (named 0) imm (pointee (B.the-row .written)), l₁) ((B′.mir, l₂) ∷ []) ks bs))) (λ v.
+            calls-at ! fm Core known to-core (and-then ! (load ! (found ! (at-local-after 𝓤 H ((B′.mir, l₂) ∷ []) ks bs 0) (stop !)) (look ! 4 refl)) (reads 1 (κ, tt) 0 tt ! 3 ks n bs 2 refl (ats 𝓤 H (rTy, l₀) (tyRef (named 0) imm (pointee (B.the-row .written)), l₁) ((B′.mir, l₂) ∷ []) ks bs))) (λ v.
             use1 W (later (some (λ (r : R .Denot). (‵ ftrue ⊛ ‵ (R .own r (v ∷ []))) ⊛ raw (ensured 𝓤 H A (core-ended ks R) cc tt (h, n₀) (hands (κ, tt) x g .0) r)))) (id⊢ 𝓤 _) $ await ! tt $ pick ! (λ r.
             split ! $ split ! $ drop ! $ peeks ! R (Is R) (shows 𝓤 H A R) r (v ∷ []) (λ is. move ! (1 ∷ []) $ use1 W (raw (ens r)) (said r) $
             -- [the ensures; what the result owns; the token; the borrow; the numbers; _tmp; …; _1; …; room for _0; …; res]

@@ -42,7 +42,7 @@ use Rattle.book.specs.declared.types.Book.{Book}
 use Rattle.book.proofs.types.Book as B
 use Rattle.book.proofs.types.Book.Laws as B′
 use Rattle.book_lent_walks.proofs.Calling.{calling}
-use Rattle.book_lent_walks.proofs.Numbers.{Ks, locs, after, opds, slots, us, Nums, spells, uvals, tells-all, Good, owned-all, quiet, same, drops, go-all, good, fit-all, had-all, ats, at-after, found, alloc-all, pass-all, free-all, reads}
+use Rattle.book_lent_walks.proofs.Numbers.{Ks, locs, localAfter, opds, slots, us, Nums, spells, uvals, tells-all, Good, owned-all, quiet, same, drops, go-all, good, fit-all, had-all, ats, at-local-after, found, alloc-all, pass-all, free-all, reads}
 use Rattle.book_lent_walks.proofs.Shape.{bval}
 use Rattle.book_lent_walks.proofs.Thin.{core-ended}
 use Rattle.book_lent_walks.proofs.Look.{look-ended}
@@ -55,11 +55,11 @@ abbrev pub show-code : Ks → Ty → Name → Fn
 show-code ks rTy f = record {
   lifetimes = 0;
   outlives = [];
-  params = suc (after ks 0);
+  params = suc (localAfter ks 0);
   locals = local rTy valueLocal ∷ local B′.mir valueLocal ∷ locs ks (local B′.mir memorySlot ∷ local (tyRef erased imm (pointee (B.the-row .written))) valueLocal ∷ []);
-  body = seq (assign (place (suc (suc (after ks 0))) []) (rvOpd (copy (place 1 []))))
-      (seq (assign (place (suc (suc (after ks 1))) []) (addrOf (place (suc (suc (after ks 0))) [])))
-      (seq (call f (copy (place (suc (suc (after ks 1))) []) ∷ opds ks 2) (place 0 [])) return));
+  body = seq (assign (place (suc (suc (localAfter ks 0))) []) (rvOpd (copy (place 1 []))))
+      (seq (assign (place (suc (suc (localAfter ks 1))) []) (addrOf (place (suc (suc (localAfter ks 0))) [])))
+      (seq (call f (copy (place (suc (suc (localAfter ks 1))) []) ∷ opds ks 2) (place 0 [])) return));
 }
 
 abbrev stayed : (ks : Ks) (R : RattleType) → Stays (core-ended ks R .signature .params) (core-ended ks R .kept)
@@ -120,14 +120,14 @@ module _ (ks : Ks) (R : RattleType) (rTy : Ty) {M : Type 1} (𝓤 : URA M) (H : 
           alloc1 ! (λ l₀. alloc1 ! (λ l₁. alloc-all ! ks (λ bs. alloc1 ! (λ l₅. alloc1 ! (λ l₇. alloc0 ! $ params1 ! $
           pass1 ! (init ! 5 refl (LL.lawful B.the-type B′.the-laws 𝓤 H A W .typed h (bvals h) was .0)) $ move ! (4 ∷ []) $ pass-all ! 0 tt ks n ok bs (rest l₅ l₇) (
           -- [the numbers; _ref; …; _book; …; _1; …; room for _0; …; what was passed; the requires]
-          assigns ! (of-opd ! (load ! (from ! (stop !)) (look ! 5 refl))) (found ! (at-after 𝓤 H (rest l₅ l₇) ks bs 0) (stop !)) (init ! 3 refl (LL.lawful B.the-type B′.the-laws 𝓤 H A W .typed h (bvals h) was .0)) $
-          assigns ! (addr ! (found ! (at-after 𝓤 H (rest l₅ l₇) ks bs 0) (stop !))) (found ! (at-after 𝓤 H (rest l₅ l₇) ks bs 1) (stop !)) (init ! 1 refl (tt, tt)) $
+          assigns ! (of-opd ! (load ! (from ! (stop !)) (look ! 5 refl))) (found ! (at-local-after 𝓤 H (rest l₅ l₇) ks bs 0) (stop !)) (init ! 3 refl (LL.lawful B.the-type B′.the-laws 𝓤 H A W .typed h (bvals h) was .0)) $
+          assigns ! (addr ! (found ! (at-local-after 𝓤 H (rest l₅ l₇) ks bs 0) (stop !))) (found ! (at-local-after 𝓤 H (rest l₅ l₇) ks bs 1) (stop !)) (init ! 1 refl (tt, tt)) $
           -- the book is lent for a lifetime ν of the call
           move ! (3 ∷ []) $ use1 W (‵ (mem B.the-row .lies h l₅ 0)) (lies-in 𝓤 H A W h l₅ 0 was) $ lft-new ! tt (λ ν. move ! (1 ∷ []) $
           use1 W (later (some (λ (γ : GName). ‵ (ShrRef (named 0) (ν ∷ []) B.the-row .own (ref l₅ 0 γ h) (vptr l₅ 0 ∷ [])) ⊛ ‵ (flent (ν ∷ []) (partAt B.the-row fullShare h l₅ 0))))) (lends-shr 𝓤 H A W B.the-row (named 0) (ν ∷ []) fullShare h l₅ 0) $ await ! tt $ pick ! (λ γ. split ! $
           -- [the reference; the lender's part; the token; the numbers; _ref; …; (what frees _book); _1; …; room for _0; …; what was passed; the requires]
           move ! (2 ∷ 0 ∷ 12 ∷ []) $ use3 W (raw (Thin .pre (to-thin l₅ ν γ))) (goes-thin l₅ ν γ) $
-          calls-at ! fm Thin known (to-thin l₅ ν γ) (and-then ! (load ! (found ! (at-after 𝓤 H (rest l₅ l₇) ks bs 1) (stop !)) (look ! 3 refl)) (reads 0 tt 1 (ν ∷ [], tt) ! 2 ks n bs 2 refl (ats 𝓤 H (rTy, l₀) (B′.mir, l₁) (rest l₅ l₇) ks bs))) (λ v.
+          calls-at ! fm Thin known (to-thin l₅ ν γ) (and-then ! (load ! (found ! (at-local-after 𝓤 H (rest l₅ l₇) ks bs 1) (stop !)) (look ! 3 refl)) (reads 0 tt 1 (ν ∷ [], tt) ! 2 ks n bs 2 refl (ats 𝓤 H (rTy, l₀) (B′.mir, l₁) (rest l₅ l₇) ks bs))) (λ v.
           use1 W (later (some (λ (r : R .Denot). ((‵ (flft (ν ∷ []) fullShare) ⊛ ‵ ftrue) ⊛ ‵ (R .own r (v ∷ []))) ⊛ raw (ensured 𝓤 H A (look-ended ks R) cc (ν ∷ [], tt) (ref l₅ 0 γ h, n₁ ν) (hands (h, n) g (ν ∷ [], tt) l₅ 0 γ .0) r)))) (id⊢ 𝓤 _) $ await ! tt $ pick ! (λ r.
           split ! $ move ! (1 ∷ []) $ use1 W (raw (ens r)) (said l₅ ν γ r) $ move ! (1 ∷ []) $ split ! $ split ! $ move ! (2 ∷ []) $ peeks ! R (Is R) (shows 𝓤 H A R) r (v ∷ []) (λ is.
           -- [what the result owns; the token; true; the ensures; the lender's part; the numbers; _ref; …; (what frees _book); _1; …; room for _0; …]

@@ -44,19 +44,19 @@ use Rattle.book.specs.declared.types.Book.{Book}
 use Rattle.book.proofs.types.Book as B
 use Rattle.book.proofs.types.Book.Laws as B′
 use Rattle.book_lent_walks.proofs.Calling.{calling}
-use Rattle.book_lent_walks.proofs.Numbers.{Ks, locs, after, opds, slots, us, Nums, spells, uvals, tells-all, Good, owned-all, quiet, same, drops, go-all, good, fit-all, had-all, env, ats, at-after, found, alloc-all, pass-all, free-all, reads}
+use Rattle.book_lent_walks.proofs.Numbers.{Ks, locs, localAfter, opds, slots, us, Nums, spells, uvals, tells-all, Good, owned-all, quiet, same, drops, go-all, good, fit-all, had-all, env, ats, at-local-after, found, alloc-all, pass-all, free-all, reads}
 use Rattle.book_lent_walks.proofs.Shape.{Shape, bval, resTy}
 
 abbrev pub thin-code : Ks → Ty → Ty → Name → Fn
 thin-code ks aTy rTy f = record {
   lifetimes = 1;
   outlives = [];
-  params = suc (after ks 0);
+  params = suc (localAfter ks 0);
   locals = local aTy valueLocal ∷ local (tyRef (named 0) mut (pointee (B.the-row .written))) valueLocal ∷ locs ks (local rTy valueLocal ∷ local B′.mir valueLocal ∷ []);
-  body = seq (assign (place (suc (suc (after ks 1))) []) (rvOpd (copy (place 1 (deref B′.mir ∷ [])))))
-      (seq (call f (copy (place (suc (suc (after ks 1))) []) ∷ opds ks 2) (place (suc (suc (after ks 0))) []))
-      (seq (assign (place 1 (deref B′.mir ∷ [])) (rvOpd (copy (place (suc (suc (after ks 0))) (field 1 ∷ [])))))
-      (seq (assign (place 0 []) (rvOpd (copy (place (suc (suc (after ks 0))) (field 0 ∷ []))))) return)));
+  body = seq (assign (place (suc (suc (localAfter ks 1))) []) (rvOpd (copy (place 1 (deref B′.mir ∷ [])))))
+      (seq (call f (copy (place (suc (suc (localAfter ks 1))) []) ∷ opds ks 2) (place (suc (suc (localAfter ks 0))) []))
+      (seq (assign (place 1 (deref B′.mir ∷ [])) (rvOpd (copy (place (suc (suc (localAfter ks 0))) (field 1 ∷ [])))))
+      (seq (assign (place 0 []) (rvOpd (copy (place (suc (suc (localAfter ks 0))) (field 0 ∷ []))))) return)));
 }
 
 -- the two signatures
@@ -138,16 +138,16 @@ module _ (S : Shape) (ks : Ks) {M : Type 1} (𝓤 : URA M) (H : Heap 𝓤) (A : 
             move ! (9 ∷ 10 ∷ 11 ∷ []) $ opens ! tt B.the-row {h = h} b o (λ vs. spelt ! B.the-row (Is B.the-row) (shows 𝓤 H A B.the-row) bvals (LL.tells B.the-type B′.the-laws) fullShare h vs b o $
             move ! (1 ∷ []) $ peeks ! B.the-row (Is B.the-row) (shows 𝓤 H A B.the-row) h (bvals h) (λ was. drop ! $
             -- [the book's cell; the open borrow; obs; auth; the numbers; _tmp; …; _res; …; _1; …; room for _0; …; the requires]
-            assigns ! (of-opd ! (load ! (from ! (hop ! (look ! 9 refl) (stop !))) (look-raw ! 0 refl))) (found ! (at-after 𝓤 H ((resTy S, l₅) ∷ (B′.mir, l₆) ∷ []) ks bs 1) (stop !)) (init ! 5 refl (LL.lawful B.the-type B′.the-laws 𝓤 H A W .typed h (bvals h) was .0)) $
+            assigns ! (of-opd ! (load ! (from ! (hop ! (look ! 9 refl) (stop !))) (look-raw ! 0 refl))) (found ! (at-local-after 𝓤 H ((resTy S, l₅) ∷ (B′.mir, l₆) ∷ []) ks bs 1) (stop !)) (init ! 5 refl (LL.lawful B.the-type B′.the-laws 𝓤 H A W .typed h (bvals h) was .0)) $
             move ! (13 ∷ []) $ use1 W (raw (Core .pre to-core)) (goes-core was) $
-            calls-at ! fm Core known to-core (and-then ! (load ! (found ! (at-after 𝓤 H ((resTy S, l₅) ∷ (B′.mir, l₆) ∷ []) ks bs 1) (stop !)) (look ! 6 refl))
+            calls-at ! fm Core known to-core (and-then ! (load ! (found ! (at-local-after 𝓤 H ((resTy S, l₅) ∷ (B′.mir, l₆) ∷ []) ks bs 1) (stop !)) (look ! 6 refl))
             (reads 1 (κ, tt) 0 tt ! 5 ks n bs 2 refl (ats 𝓤 H (S .ansTy, l₀) (tyRef (named 0) mut (pointee (B.the-row .written)), l₁) ((resTy S, l₅) ∷ (B′.mir, l₆) ∷ []) ks bs))) (λ v.
             use1 W (later (some (λ (r : S .res .Denot). (‵ ftrue ⊛ ‵ (S .res .own r (v ∷ []))) ⊛ raw (ensured 𝓤 H A (core-ended ks (S .res)) cc tt (h, n₀) (hands (κ, tt) x g .0) r)))) (id⊢ 𝓤 _) $ await ! tt $ pick ! (λ r.
             split ! $ split ! $ drop ! $ peeks ! (S .res) (Is (S .res)) (shows 𝓤 H A (S .res)) r (v ∷ []) (λ is. drop ! $ use1 W (raw (ens r)) (said r) $
             -- [the ensures; the book's cell; the open borrow; obs; auth; the numbers; _tmp; …; _res; …; _1; …; room for _0; …]
-            land ! (found ! (at-after 𝓤 H ((resTy S, l₅) ∷ (B′.mir, l₆) ∷ []) ks bs 0) (stop !)) (init ! 8 refl (S .res-typed 𝓤 H A W r v is)) $ rewrite ! 8 (λ (u : Val). ‵ (fat fullShare (resTy S) l₅ 0 u)) (ap only (S .tells r (v ∷ []) is)) refl $
-            assigns ! (of-opd ! (load ! (found ! (at-after 𝓤 H ((resTy S, l₅) ∷ (B′.mir, l₆) ∷ []) ks bs 0) (fld ! (S .at-book) (stop !))) (look-in ! 8 (sub ! 1 (S .at-book) (whole !))))) (from ! (hop ! (look ! 10 refl) (stop !))) (store-raw ! 1 refl (LL.lawful B.the-type B′.the-laws 𝓤 H A W .typed (S .book r) (bvals (S .book r)) (S .bk r (v ∷ []) is) .0)) $
-            assigns ! (of-opd ! (load ! (found ! (at-after 𝓤 H ((resTy S, l₅) ∷ (B′.mir, l₆) ∷ []) ks bs 0) (fld ! (S .at-answer) (stop !))) (look-in ! 8 (sub ! 0 (S .at-answer) (whole !))))) (from ! (stop !)) (init ! 12 refl (S .ans-typed 𝓤 H A W (S .answer r) (S .aval (S .answer r)) (S .an r (v ∷ []) is))) $
+            land ! (found ! (at-local-after 𝓤 H ((resTy S, l₅) ∷ (B′.mir, l₆) ∷ []) ks bs 0) (stop !)) (init ! 8 refl (S .res-typed 𝓤 H A W r v is)) $ rewrite ! 8 (λ (u : Val). ‵ (fat fullShare (resTy S) l₅ 0 u)) (ap only (S .tells r (v ∷ []) is)) refl $
+            assigns ! (of-opd ! (load ! (found ! (at-local-after 𝓤 H ((resTy S, l₅) ∷ (B′.mir, l₆) ∷ []) ks bs 0) (fld ! (S .at-book) (stop !))) (look-in ! 8 (sub ! 1 (S .at-book) (whole !))))) (from ! (hop ! (look ! 10 refl) (stop !))) (store-raw ! 1 refl (LL.lawful B.the-type B′.the-laws 𝓤 H A W .typed (S .book r) (bvals (S .book r)) (S .bk r (v ∷ []) is) .0)) $
+            assigns ! (of-opd ! (load ! (found ! (at-local-after 𝓤 H ((resTy S, l₅) ∷ (B′.mir, l₆) ∷ []) ks bs 0) (fld ! (S .at-answer) (stop !))) (look-in ! 8 (sub ! 0 (S .at-answer) (whole !))))) (from ! (stop !)) (init ! 12 refl (S .ans-typed 𝓤 H A W (S .answer r) (S .aval (S .answer r)) (S .an r (v ∷ []) is))) $
             move ! (1 ∷ []) $ owned ! B.the-row (Is B.the-row) (LL.makes B.the-type B′.the-plain 𝓤 H A) (S .book r) (bvals (S .book r)) (S .bk r (v ∷ []) is) $ move ! (1 ∷ 0 ∷ 3 ∷ 4 ∷ 5 ∷ []) $ closes ! tt B.the-row (S .book r) (bvals (S .book r)) b o $
             -- [obs; the borrow; the token; the ensures; the numbers; _tmp; …; _res; …; _1; …; _0; …]
             returns ! (look ! 11 refl) $ forget ! 5 refl $ forget ! 7 refl $ forget ! 9 refl $ forget ! 11 refl $ move ! (11 ∷ 12 ∷ []) $ free1 ! $ move ! (9 ∷ 10 ∷ []) $ free1 ! $ move ! (4 ∷ []) $ free-all ! 1 (κ, tt) ks n bs (

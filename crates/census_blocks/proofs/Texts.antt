@@ -33,7 +33,7 @@ use Rattle.run_validity.proofs.Runs.{stands-once}
 use Rattle.run_rows_writing.specs.Promises.{ShortRows, RunAfterRows, RowsGiven}
 use Rattle.run_blocks_marked.proofs.Whole.{gave-holds}
 use Rattle.run_row.specs.Rows.{flatWords}
-use Rattle.run_row.proofs.Blocks.{spelled-of, black-length, white-length}
+use Rattle.listing.proofs.Spelled.{spelled-of, black-length, white-length}
 use Rattle.run_marks.specs.Marks.{MarkOf, Marks, BlockHeld, MarksWritten}
 use Rattle.run_marks.proofs.Marking.{row-length, Here, here}
 use Rattle.text_printing.specs.Printing.{Output, output, putAll}

@@ -5,17 +5,15 @@ use mathlib.Core.Bool.{Bool, true, false, cond}
 use mathlib.Core.List.{List, [], _∷_, _++_, map}
 use mathlib.Core.Option.{some}
 use Prim.Native.Nat.{ℕ, zero, suc, _+_, _-_, _*_, _/_, _^_, _≤_, _<_}
-use native.Mathlib.Nat.{pow-suc}
 use native.Mathlib.Omega.{arith}
 use lib.Dec.{ltb}
 use lib.IntN.{ℤ, pos, negsuc, subℕ}
 use lib.ListN.{length, length-append}
 use Rattle.lists.specs.Lists.{at}
 use Rattle.lists.specs.Ranges.{OneTo}
-use Rattle.lists.proofs.Tests.{lt?}
 use Rattle.diagrams.specs.Diagram.{Maps}
 use Rattle.words_decimals.specs.Decimals.{decimal}
-use Rattle.words_decimals.proofs.Decimal.{decimal-small, length-more}
+use Rattle.words_decimals.proofs.Decimal.{decimal-within}
 use Rattle.words.specs.Letters.{event-letters, events-letters, letters}
 use Rattle.words.specs.Shape.{Fits, Word}
 use Rattle.words.specs.Word.{Pair, spell}
@@ -28,19 +26,10 @@ use Rattle.listing.specs.Position.{wordAt}
 use Rattle.listing.specs.Diagrams.{diagramOf, diagramAt}
 use Rattle.listing.proofs.Positions.{at-word}
 use Rattle.listing_table.proofs.Counts.{count-small}
-use Rattle.run_row.proofs.Blocks.{spelled-of, black-length, white-length}
+use Rattle.listing.proofs.Spelled.{spelled-of, black-length, white-length}
 use Rattle.census_definition.specs.Census.{signed, joined, commas, isKept, numbers, fields, row, rowBytes}
 
 -- ---- numbers
-
--- k + 1 digits are enough for a number below 10 ^ (k + 1)
-pub decimal-within : (k m : ℕ) → m < 10 ^ 20 → m < 10 ^ suc k → length (decimal m) ≤ suc k
-decimal-within zero m l h = rw (decimal-small m h) (omega arith)
-decimal-within (suc k) m l h = go (lt? m 10) (decimal-within k (m / 10))
-  where
-    go : (m < 10) ⊎ (10 ≤ m) → (m / 10 < 10 ^ 20 → m / 10 < 10 ^ suc k → length (decimal (m / 10)) ≤ suc k) → length (decimal m) ≤ suc (suc k)
-    go (inl s) f = rw (decimal-small m s) (omega arith)
-    go (inr s) f = let i = f (omega arith) (omega (arith, pow-suc 10 (suc k))) in rw (length-more m l s) (omega arith)
 
 two : (m : ℕ) → m < 100 → length (decimal m) ≤ 2
 two m h = decimal-within 1 m (omega arith) (omega arith)

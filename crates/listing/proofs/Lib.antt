@@ -4,3 +4,4 @@ pub mod Ranking
 pub mod Examples
 pub mod Positions
 pub mod InPlace
+pub mod Spelled

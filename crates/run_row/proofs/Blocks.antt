@@ -1,19 +1,17 @@
 -- The diagrams of a block: how long their lists are, one by one and together.
 use mathlib.Core.Path.{_≡_, refl, sym, ap, _∙_}
-use mathlib.Core.Option.{some}
 use mathlib.Core.List.{List}
 use Prim.Native.Nat.{ℕ, zero, suc, _+_, _*_, _≤_, _<_}
 use native.Mathlib.Nat.{zero-mul, suc-mul, mul-le-mul-right}
 use native.Mathlib.Omega.{arith}
 use lib.ListN.{length, length-append}
 use Rattle.lists.proofs.Lists.{length-1}
-use Rattle.words.specs.Word.{spell}
 use Rattle.words.specs.Shape.{Word}
-use Rattle.words.proofs.Shape.{word-spells, word-length}
-use Rattle.words.proofs.Spelled.{spelled-lengths}
+use Rattle.words.proofs.Shape.{word-length}
 use Rattle.listing.specs.Listing.{count}
 use Rattle.listing.specs.Position.{wordAt}
 use Rattle.listing.specs.Diagrams.{diagramOf, diagramAt}
+pub use Rattle.listing.proofs.Spelled.{spelled-of, black-length, white-length}
 use Rattle.listing_successor.proofs.Places.{word-at}
 use Rattle.words_respelling.specs.SpelledSoFar.{SpelledSoFar}
 use Rattle.words_respelling.proofs.Laws.{spelling-whole}
@@ -23,23 +21,11 @@ use Rattle.run_row.specs.Rows.{blacks, whites, flatWords, lengths}
 -- ---- one row
 
 module _ (n : ℕ) (w : List ℕ) (a : Word n w) where
-  pub spelled-of : spell w ≡ some (diagramOf w)
-  unfolding diagramOf
-  spelled-of = let s = word-spells n w a in rw (s .spelt)
-
-  pub black-length : length (diagramOf w .black) ≡ n
-  unfolding diagramOf
-  black-length = let s = word-spells n w a in rw (s .spelt) (s .sized)
-
-  pub white-length : length (diagramOf w .white) ≡ n
-  unfolding diagramOf
-  white-length = let s = word-spells n w a in rw (s .spelt) (spelled-lengths w (s .pair) (s .spelt) ∙ s .sized)
-
   -- spelled whole, it is the row's diagram
   pub spelled-begins : n ≤ 50 → (used height : ℕ) (stack popped d0 d1 : List ℕ) → SpelledSoFar w stack popped d0 d1 used height → RowBegins n w d0 d1
   spelled-begins s used height stack popped d0 d1 K =
-      let q = spelling-whole w stack popped d0 d1 used height K (diagramOf w) spelled-of in
-      let e = rw black-length at q in
+      let q = spelling-whole w stack popped d0 d1 used height K (diagramOf w) (spelled-of n w a) in
+      let e = rw (black-length n w a) at q in
       let l = K .long in
       record { in-black = omega arith; in-white = omega arith; black-is = e .0; white-is = e .1 }
 

@@ -33,7 +33,7 @@ use Rattle.book.specs.Taken.{TakePromise}
 use Rattle.book.specs.Holding.{ShareHolds}
 use Rattle.book.proofs.Partition.{share-of, held-in}
 use Rattle.book.proofs.ValidBook.{facts-valid, among-true}
-use Rattle.book.proofs.Accepted.{zero-unless, Stands, ticket-unfinished}
+use Rattle.book.proofs.Accepted.{zero-unless, TicketAt, ticket-unfinished}
 use Rattle.book.proofs.Ledger.{Ledger, passed-held, next-uncommitted, ledger-opened, finished-all, all-finished, complete-shares, shares-complete}
 use Rattle.book.proofs.CallLaws.{ledger-claim, ledger-take, ledger-commit, ledger-release, commit-good, committed-number, take-good}
 use Rattle.book.proofs.CommitRange.{moved-next, good-in, ledger-range, range-good, range-committed}
@@ -145,14 +145,14 @@ module _ (n k : ℕ) (N : OneTo 50 n) (K : OneTo 32 k) (calls : List Call) where
           rw (class-once n N p (q .0) e (committed-in (q .0) (q .1)) (q .2)) (q .1)
 
   -- the share of a ticket that is good, at its next position
-  due-held : (t j : ℕ) → Stands b t j → ShareHolds n k j (next b j)
+  due-held : (t j : ℕ) → TicketAt b t j → ShareHolds n k j (next b j)
   due-held t j T = record {
     share = rw (ledger .shared) at (T .share-in);
     from = rw (ledger .sized, ledger .shared) at (ledger .is-valid .share j (T .share-in) .from);
     to = rw (ledger .sized, ledger .shared) at (ticket-unfinished b t j (ledger .is-valid) T);
   }
 
-  is-due : (t : ℕ) → Stands b t (holder b t) → Due n k b C t (holder b t) (next b (holder b t))
+  is-due : (t : ℕ) → TicketAt b t (holder b t) → Due n k b C t (holder b t) (next b (holder b t))
   is-due t T =
       let j = holder b t in
       let H = due-held t j T in

@@ -40,6 +40,8 @@ use Rattle.run_answers.specs.declared.Stepping.{Stepping}
 use Rattle.run_steps.specs.Promises.{BeginPromise, BeginAtPromise, StepPromise}
 use Rattle.run_blocks_answers.specs.declared.Listing.{Listing}
 use Rattle.run_blocks.specs.Promises.{ListPromise, ListMarkedPromise}
+use Rattle.run_text.specs.declared.RowsAnswer.{RowsAnswer}
+use Rattle.run_text.specs.Promises.{RowsPromise}
 use Rattle.book.specs.declared.types.Book.{Book}
 use Rattle.book.specs.declared.types.Taking.{Taking}
 use Rattle.book.specs.Taken.{TakePromise}
@@ -84,6 +86,9 @@ pub record Determined : Type 0 where
   pub begin-at-once : (n p : ℕ) (next other : Run) (r q : Beginning) → BeginAtPromise n p next r → BeginAtPromise n p other q → (r ≡ q) × (next ≡ other)
   pub step-once : (run next other : Run) (a0 a1 aw b0 b1 bw c0 c1 cw : List ℕ) (r q : Stepping) → StepPromise run next a0 a1 aw b0 b1 bw r → StepPromise run other a0 a1 aw c0 c1 cw q
       → (r ≡ q) × (next ≡ other) × SameLists b0 b1 bw c0 c1 cw
+  -- the text of the next rows
+  pub rows-once : (run : Run) (asked : ℕ) (a : List ℕ) (next other : Run) (b c : List ℕ) (r q : RowsAnswer)
+      → RowsPromise run asked a next b r → RowsPromise run asked a other c q → (r ≡ q) × (next ≡ other) × (b ≡ c)
   -- a listing in blocks, without keep marks and with them
   pub list-once : (run : Run) (rows : ℕ) (a0 a1 aw al : List ℕ) (next other : Run) (b0 b1 bw bl c0 c1 cw cl : List ℕ) (r q : Listing)
       → ListPromise run rows a0 a1 aw al next b0 b1 bw bl r → ListPromise run rows a0 a1 aw al other c0 c1 cw cl q

@@ -46,6 +46,11 @@ pub decimal-length : (m : ℕ) → length (decimal m) ≤ 20
 unfolding decimal
 decimal-length m = digits-length 20 m
 
+-- k + 1 digits are enough for a number below 10 ^ (k + 1)
+pub decimal-within : (k m : ℕ) → k < 20 → m < 10 ^ suc k → length (decimal m) ≤ suc k
+unfolding decimal
+decimal-within k m l h = rw (digits-enough k 20 m h l) (digits-length (suc k) m)
+
 pub decimal-some : (m : ℕ) → 1 ≤ length (decimal m)
 unfolding decimal
 decimal-some m = go (lt? m 10)

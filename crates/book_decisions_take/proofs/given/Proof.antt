@@ -21,7 +21,7 @@ use Rattle.book.specs.declared.types.Taking.the-variants as taking
 use Rattle.book_standing.specs.declared.Asked.the-variants as asked
 use Rattle.book.specs.Shares.{next, holder}
 use Rattle.book.specs.Valid.{both}
-use Rattle.book.specs.Calls.{due, room, ticked, ticket-number, take-number, take-answer, take-book, take-list}
+use Rattle.book.specs.Calls.{due, lists-hold, ticked, ticket-number, take-number, take-answer, take-book, take-list}
 use Rattle.book_standing.specs.Ask.{AskPromise}
 use Rattle.book.specs.Taken.{TakePromise}
 use Rattle.book.proofs.Partition.{held-in}
@@ -35,9 +35,9 @@ use Rattle.book_decisions_take.proofs.given.Lts as lts
 use Rattle.listing_ranking.proofs.diagram_at.Reads as diagram-at-reads
 
 -- the test of the room that the lists have
-room-true : (n : ℕ) (a0 a1 aw : List ℕ) → ¬ Short n a0 a1 aw → room n (length a0) (length a1) (length aw) ≡ true
-unfolding room
-room-true n a0 a1 aw h = let l = long-enough n a0 a1 aw h in both-of _ _ (le-true _ _ (l .0)) (both-of _ _ (le-true _ _ (l .1)) (le-true _ _ (l .2)))
+lists-hold-true : (n : ℕ) (a0 a1 aw : List ℕ) → ¬ Short n a0 a1 aw → lists-hold n (length a0) (length a1) (length aw) ≡ true
+unfolding lists-hold
+lists-hold-true n a0 a1 aw h = let l = long-enough n a0 a1 aw h in both-of _ _ (le-true _ _ (l .0)) (both-of _ _ (le-true _ _ (l .1)) (le-true _ _ (l .2)))
 
 one-false : (x y z : Bool) → (x ≡ false) ⊎ ((y ≡ false) ⊎ (z ≡ false)) → both x (both y z) ≡ false
 one-false false y z h = refl
@@ -45,31 +45,31 @@ one-false true false z h = refl
 one-false true true false h = refl
 one-false true true true h = let no : ¬ (true ≡ false) = true≢false in absurd (⊎-elim no (⊎-elim no no) h)
 
-room-false : (n : ℕ) (a0 a1 aw : List ℕ) → Short n a0 a1 aw → room n (length a0) (length a1) (length aw) ≡ false
-unfolding room
-room-false n a0 a1 aw h = one-false (leb n (length a0)) (leb n (length a1)) (leb (suc n) (length aw)) (⊎-elim (λ x. inl (le-false _ _ x)) (⊎-elim (λ x. inr (inl (le-false _ _ x))) (λ x. inr (inr (le-false _ _ x)))) h)
+lists-hold-false : (n : ℕ) (a0 a1 aw : List ℕ) → Short n a0 a1 aw → lists-hold n (length a0) (length a1) (length aw) ≡ false
+unfolding lists-hold
+lists-hold-false n a0 a1 aw h = one-false (leb n (length a0)) (leb n (length a1)) (leb (suc n) (length aw)) (⊎-elim (λ x. inl (le-false _ _ x)) (⊎-elim (λ x. inr (inl (le-false _ _ x))) (λ x. inr (inr (le-false _ _ x)))) h)
 
 module _ (b : Book) (tick t : ℕ) where
   module _ (a0 a1 aw : List ℕ) {c0 c1 cw : List ℕ} (e : (rest : ℕ) → ticket-number b tick t rest ≡ rest) where
     take-short : Short (b .size) a0 a1 aw → Untouched a0 a1 aw c0 c1 cw → TakePromise b tick t a0 a1 aw (taking.Refused 9) b c0 c1 cw
     unfolding take-answer take-book take-list take-number
     take-short s u = record {
-      answered = rw (e _, room-false _ _ _ _ s);
-      left = rw (e _, room-false _ _ _ _ s);
-      s0-is = rw (e _, room-false _ _ _ _ s) (u .s0-same);
-      s1-is = rw (e _, room-false _ _ _ _ s) (u .s1-same);
-      word-is = rw (e _, room-false _ _ _ _ s) (u .word-same);
+      answered = rw (e _, lists-hold-false _ _ _ _ s);
+      left = rw (e _, lists-hold-false _ _ _ _ s);
+      s0-is = rw (e _, lists-hold-false _ _ _ _ s) (u .s0-same);
+      s1-is = rw (e _, lists-hold-false _ _ _ _ s) (u .s1-same);
+      word-is = rw (e _, lists-hold-false _ _ _ _ s) (u .word-same);
     }
 
     take-given : ¬ Short (b .size) a0 a1 aw → Written (diagramAt (b .size) (next b (holder b t))) (wordAt (b .size) (next b (holder b t))) a0 a1 aw c0 c1 cw
         → TakePromise b tick t a0 a1 aw (taking.Given (holder b t) (next b (holder b t)) (length (wordAt (b .size) (next b (holder b t))))) (ticked b tick) c0 c1 cw
     unfolding take-answer take-book take-list take-number due
     take-given s w = record {
-      answered = rw (e _, room-true _ _ _ _ s);
-      left = rw (e _, room-true _ _ _ _ s);
-      s0-is = rw (e _, room-true _ _ _ _ s) (w .s0-written);
-      s1-is = rw (e _, room-true _ _ _ _ s) (w .s1-written);
-      word-is = rw (e _, room-true _ _ _ _ s) (w .word-written);
+      answered = rw (e _, lists-hold-true _ _ _ _ s);
+      left = rw (e _, lists-hold-true _ _ _ _ s);
+      s0-is = rw (e _, lists-hold-true _ _ _ _ s) (w .s0-written);
+      s1-is = rw (e _, lists-hold-true _ _ _ _ s) (w .s1-written);
+      word-is = rw (e _, lists-hold-true _ _ _ _ s) (w .word-written);
     }
 
   module _ (G : TicketGood b tick t) where

@@ -16,7 +16,7 @@ use Rattle.book.specs.Shares.{expiry, holder, lapsed}
 use Rattle.book.specs.Valid.{both, valid}
 use Rattle.book.specs.Calls.{tick-in, ticket-number}
 use Rattle.book.proofs.ValidBook.{valid-facts}
-use Rattle.book.proofs.Accepted.{holder-stands}
+use Rattle.book.proofs.Accepted.{holder-has-ticket}
 use Rattle.book_standing.proofs.ask.Statement.{statement}
 use Rattle.book_standing.proofs.ask.Tie as tie
 use Rattle.book_standing.proofs.ask.Reads as reads
@@ -68,7 +68,7 @@ somewhere c = rw (share-is (c .before)) at (c .if3 .left)
 held : (c : tie.Else3) → OneTo 32 (c .before .holder .result)
 held c =
     let s = c .before .before .before .before .before .before .before .before .before in
-    let q = holder-stands (lent s) (s .args .ticket) (somewhere c) .share-in in
+    let q = holder-has-ticket (lent s) (s .args .ticket) (somewhere c) .share-in in
     let k = valid-facts (lent s) (is-valid (c .before .before .before .before)) .shares-in in
     rw (share-is (c .before)) (omega arith)
 

@@ -75,7 +75,7 @@ rows-not-refused run rows Short Wrote Left next k number (inl x) (inr y) = stand
 rows-not-refused run rows Short Wrote Left next k number (inr x) (inl y) = y .1 (x .0) (x .1) (x .2)
 rows-not-refused run rows Short Wrote Left next k number (inr x) (inr y) = x .3 (rw (stands-once (x .2) (y .1 .2) .0) (y .1 .3))
 
-refused-rows-once : (run : Run) (Short : ℕ → Type 0) (j k : ℕ) → RefusedList run Short j → RefusedList run Short k → j ≡ k
+pub refused-rows-once : (run : Run) (Short : ℕ → Type 0) (j k : ℕ) → RefusedList run Short j → RefusedList run Short k → j ≡ k
 refused-rows-once run Short j k (inl x) (inl y) = x .0 ∙ sym (y .0)
 refused-rows-once run Short j k (inl x) (inr y) = absurd (x .1 (y .1 .0) (y .1 .1) (y .1 .2))
 refused-rows-once run Short j k (inr x) (inl y) = absurd (y .1 (x .1 .0) (x .1 .1) (x .1 .2))
