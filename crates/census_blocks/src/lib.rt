@@ -32,17 +32,7 @@ pub fn put_block(run: Run, p: u64, rows: usize, out: &mut [u8]) -> Block
     let mut marks = [0u8; ROWS];
     let reached = rows_of(run, rows, &mut s0, &mut s1, &mut words, &mut lengths);
     mark_rows(n, reached.rows, &s0, &s1, &words, &lengths, &mut marks);
-    let page = put_rows(
-        out,
-        p,
-        n,
-        reached.rows,
-        &s0,
-        &s1,
-        &words,
-        &lengths,
-        &marks,
-    );
+    let page = put_rows(out, p, n, reached.rows, &s0, &s1, &words, &lengths, &marks);
     let next = reached.run;
     Block {
         run: next,

@@ -138,10 +138,10 @@ module _ {n p all : ℕ} {before : List ℕ} {run : Run} {out : List ℕ} {bytes
       let y = rows n (p + done) k in
       let f : length x ≤ length before = let i = bytes-within in let e = G .text .bytes-are in let l = G .long in omega arith in
       let room : bytes + length y ≤ length out =
-            let i = room-left k h in
-            let j = rows-fit n (p + done) k s (omega arith) in
-            let m = bytes-within in
-            omega arith in
+      let i = room-left k h in
+      let j = rows-fit n (p + done) k s (omega arith) in
+      let m = bytes-within in
+      omega arith in
       let part : putMid bytes (length out - bytes) out b ≡ overwriteFrom bytes y out = from-part bytes y out b room (T .written) in
       record {
         few = h;

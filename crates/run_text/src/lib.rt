@@ -95,7 +95,11 @@ pub fn rows(run: Run, asked: u64, out: &mut [u8]) -> RowsDone
     }
     if run.stage == 2 {
         return RowsDone {
-            answer: RowsAnswer::Rows { rows: 0, bytes: 0, kept: 0 },
+            answer: RowsAnswer::Rows {
+                rows: 0,
+                bytes: 0,
+                kept: 0,
+            },
             run,
         };
     }
