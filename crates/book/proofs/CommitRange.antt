@@ -90,8 +90,8 @@ module _ (b : Book) (tick t : ℕ) (L : Long b) (G : TicketGood b tick t) where
   end = last (b .size) (b .shares) (holder b t)
 
   -- the position after the share's next one, its ticket and its expiry
-  abbrev after : ℕ
-  after = suc (next b (holder b t))
+  abbrev nextAfter : ℕ
+  nextAfter = suc (next b (holder b t))
 
   abbrev own : ℕ
   own = at (b .ticket) (holder b t)
@@ -113,30 +113,30 @@ module _ (b : Book) (tick t : ℕ) (L : Long b) (G : TicketGood b tick t) where
   unfolding commit-number due
   commit-accepted = rw (good-number b tick t _ G, eqb-same (next b j))
 
-  commit-leaves : commit-book b tick t (next b j) ≡ movedTo b tick j after
+  commit-leaves : commit-book b tick t (next b j) ≡ movedTo b tick j nextAfter
   unfolding commit-book movedOn
   commit-leaves = rw commit-accepted
 
   -- the book after a commit that is not the share's last
   abbrev on : Book
-  on = entered b tick (b .issued) j after own until
+  on = entered b tick (b .issued) j nextAfter own until
 
-  module _ (l : after ≤ end) where
+  module _ (l : nextAfter ≤ end) where
     on-valid : ValidBook on
-    on-valid = entered-valid b tick (b .issued) j after own until L good-in (G .is-valid) (kept-on b tick t G after (let y = good-from in omega arith) l)
+    on-valid = entered-valid b tick (b .issued) j nextAfter own until L good-in (G .is-valid) (kept-on b tick t G nextAfter (let y = good-from in omega arith) l)
 
     on-stands : TicketAt on t j
     on-stands = record {
       share-in = unfold entered in (G .stands .share-in);
       some = G .stands .some;
-      is = entered-ticket b tick (b .issued) j after own until L good-in ∙ G .stands .is;
+      is = entered-ticket b tick (b .issued) j nextAfter own until L good-in ∙ G .stands .is;
     }
 
     on-holder : holder on t ≡ j
     on-holder = holder-is on t j on-valid on-stands
 
     on-long : Long on
-    on-long = entered-long b tick (b .issued) j after own until L good-in
+    on-long = entered-long b tick (b .issued) j nextAfter own until L good-in
 
     on-good : TicketGood on tick t
     on-good = record {
@@ -144,27 +144,27 @@ module _ (b : Book) (tick t : ℕ) (L : Long b) (G : TicketGood b tick t) where
       later = unfold entered in (omega arith);
       tick-small = G .tick-small;
       stands = rw on-holder on-stands;
-      unlapsed = rw (on-holder, entered-expiry b tick (b .issued) j after own until L good-in) (G .unlapsed);
+      unlapsed = rw (on-holder, entered-expiry b tick (b .issued) j nextAfter own until L good-in) (G .unlapsed);
     }
 
-    on-next : next on (holder on t) ≡ after
-    on-next = rw on-holder (entered-next b tick (b .issued) j after own until L good-in)
+    on-next : next on (holder on t) ≡ nextAfter
+    on-next = rw on-holder (entered-next b tick (b .issued) j nextAfter own until L good-in)
 
     on-end : last (on .size) (on .shares) (holder on t) ≡ end
     on-end = rw on-holder (unfold entered in refl)
 
     on-left : commit-book b tick t (next b j) ≡ on
-    on-left = commit-leaves ∙ moved-within b tick j L good-in after l
+    on-left = commit-leaves ∙ moved-within b tick j L good-in nextAfter l
 
     on-twice : (p u e : ℕ) → entered on tick (on .issued) j p u e ≡ entered b tick (b .issued) j p u e
     unfolding entered
-    on-twice p u e = entered-twice b tick (b .issued) j after own until p u e
+    on-twice p u e = entered-twice b tick (b .issued) j nextAfter own until p u e
 
     on-ticket : at (on .ticket) j ≡ own
-    on-ticket = entered-ticket b tick (b .issued) j after own until L good-in
+    on-ticket = entered-ticket b tick (b .issued) j nextAfter own until L good-in
 
     on-expiry : at (on .expiry) j ≡ until
-    on-expiry = entered-expiry b tick (b .issued) j after own until L good-in
+    on-expiry = entered-expiry b tick (b .issued) j nextAfter own until L good-in
 
     -- the next commits leave the same, from this book as from the one before
     on-moved : (p : ℕ) → movedTo on tick (holder on t) p ≡ movedTo b tick j p
@@ -178,21 +178,21 @@ module _ (b : Book) (tick t : ℕ) (L : Long b) (G : TicketGood b tick t) where
         go (inr u) = moved-within on tick j on-long good-in p (rw same-end u) ∙ rw (on-ticket, on-expiry) (on-twice p own until) ∙ sym (moved-within b tick j L good-in p u)
 
   -- the commit of the share's last position ends the ticket
-  ended-number : (rest : ℕ) → end < after → ticket-number (commit-book b tick t (next b j)) tick t rest ≡ 58
-  ended-number rest l = rw (commit-leaves, moved-past b tick j L good-in after l) (timely off tick t rest off-valid off-later (G .tick-small) ∙ rw off-holder)
+  ended-number : (rest : ℕ) → end < nextAfter → ticket-number (commit-book b tick t (next b j)) tick t rest ≡ 58
+  ended-number rest l = rw (commit-leaves, moved-past b tick j L good-in nextAfter l) (timely off tick t rest off-valid off-later (G .tick-small) ∙ rw off-holder)
     where
       off : Book
-      off = entered b tick (b .issued) j after 0 0
+      off = entered b tick (b .issued) j nextAfter 0 0
 
       off-valid : ValidBook off
-      off-valid = entered-valid b tick (b .issued) j after 0 0 L good-in (G .is-valid) (freed b tick t G after (let y = good-from in omega arith) (let y = good-next in omega arith))
+      off-valid = entered-valid b tick (b .issued) j nextAfter 0 0 L good-in (G .is-valid) (freed b tick t G nextAfter (let y = good-from in omega arith) (let y = good-next in omega arith))
 
       off-later : off .latest ≤ tick
       off-later = unfold entered in (omega arith)
 
       off-ticket : (i : ℕ) → OneTo (b .shares) i → (i ≡ j) ⊎ (i ≢ j) → ticket off i ≢ t
-      off-ticket i e (inl q) z = G .stands .some (sym z ∙ ap (ticket off) q ∙ entered-ticket b tick (b .issued) j after 0 0 L good-in)
-      off-ticket i e (inr q) z = ticket-distinct b t j (G .is-valid) (G .stands) i e q (sym (other-ticket b tick (b .issued) j after 0 0 L good-in i q) ∙ z)
+      off-ticket i e (inl q) z = G .stands .some (sym z ∙ ap (ticket off) q ∙ entered-ticket b tick (b .issued) j nextAfter 0 0 L good-in)
+      off-ticket i e (inr q) z = ticket-distinct b t j (G .is-valid) (G .stands) i e q (sym (other-ticket b tick (b .issued) j nextAfter 0 0 L good-in i q) ∙ z)
 
       off-holder : holder off t ≡ 0
       off-holder = nowhere-holder off t (unfold Nowhere entered in (inr (λ i e. off-ticket i e (same? i j))))
@@ -211,7 +211,7 @@ stretch-within tick t (suc m) b L G l =
     let e = on-end b tick t L G u in
     let q = stretch-within tick t m (on b tick t L G) (on-long b tick t L G u) (on-good b tick t L G u) (rw (x, e) (omega arith)) in (
       rw (commit-accepted b tick t L G, on-left b tick t L G u) (rw x at (q .0)),
-      ap (λ (c : Book). commits-book c tick t (stretch (after b tick t L G) (suc m))) (on-left b tick t L G u)
+      ap (λ (c : Book). commits-book c tick t (stretch (nextAfter b tick t L G) (suc m))) (on-left b tick t L G u)
           ∙ rw x at (q .1)
           ∙ on-moved b tick t L G u _
           ∙ ap (movedTo b tick (holder b t)) (omega arith),
@@ -224,14 +224,14 @@ PastEnd tick t m b =
     → commits-number b tick t (stretch (next b (holder b t)) (suc m)) ≡ 58
 
 past-step : (tick t m : ℕ) (b : Book) (L : Long b) (G : TicketGood b tick t) → last (b .size) (b .shares) (holder b t) < next b (holder b t) + suc m
-    → PastEnd tick t m (on b tick t L G) → commits-number (commit-book b tick t (next b (holder b t))) tick t (stretch (after b tick t L G) (suc m)) ≡ 58
+    → PastEnd tick t m (on b tick t L G) → commits-number (commit-book b tick t (next b (holder b t))) tick t (stretch (nextAfter b tick t L G) (suc m)) ≡ 58
 unfolding commits-number
-past-step tick t m b L G l r = go (lt? (last (b .size) (b .shares) (holder b t)) (after b tick t L G))
+past-step tick t m b L G l r = go (lt? (last (b .size) (b .shares) (holder b t)) (nextAfter b tick t L G))
   where
-    go : (last (b .size) (b .shares) (holder b t) < after b tick t L G) ⊎ (after b tick t L G ≤ last (b .size) (b .shares) (holder b t))
-        → commits-number (commit-book b tick t (next b (holder b t))) tick t (stretch (after b tick t L G) (suc m)) ≡ 58
+    go : (last (b .size) (b .shares) (holder b t) < nextAfter b tick t L G) ⊎ (nextAfter b tick t L G ≤ last (b .size) (b .shares) (holder b t))
+        → commits-number (commit-book b tick t (next b (holder b t))) tick t (stretch (nextAfter b tick t L G) (suc m)) ≡ 58
     go (inl u) =
-        let e : commit-number (commit-book b tick t (next b (holder b t))) tick t (after b tick t L G) ≡ 58 = unfold commit-number in (ended-number b tick t L G _ u) in
+        let e : commit-number (commit-book b tick t (next b (holder b t))) tick t (nextAfter b tick t L G) ≡ 58 = unfold commit-number in (ended-number b tick t L G _ u) in
         rw e
     go (inr u) =
         let x = on-next b tick t L G u in

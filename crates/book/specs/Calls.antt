@@ -14,7 +14,7 @@
 --   held b j tick                   a ticket stands at share j and has not lapsed (refusal 56)
 --   ticket-number b tick t rest     what take, commit and release check first: 50, 52, 58, 59
 --   due b t                         the next position of the share where the ticket t stands
---   lists-hold n l0 l1 lw                 lists of these lengths hold a diagram of n edges and its word (refusal 9)
+--   lists-hold n l0 l1 lw           lists of these lengths hold a diagram of n edges and its word (refusal 9)
 --   take-list .. x a                what a take leaves in the lent list a, of which it writes x over the beginning where it is accepted
 --   movedTo b tick j p              the book b with p as share j's next position; past the last position its ticket ends
 --   movedOn b tick j                the book b with share j moved on by one

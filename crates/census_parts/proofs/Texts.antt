@@ -25,7 +25,7 @@ use Rattle.census_parts.specs.Parts.{begun, InProgress, printed, printed
 
 pub begins : (n : ℕ) → OneTo 50 n → InProgress (begun n)
 unfolding keptAmong
-begins n s = record { sized = s; staged = omega arith; none-yet = λ e. refl; within = omega arith; counted = refl; after = refl }
+begins n s = record { sized = s; staged = omega arith; none-yet = λ e. refl; within = omega arith; counted = refl; run-after = refl }
 
 -- ---- what a line leaves at the beginning of the list
 
@@ -42,7 +42,7 @@ module _ {c : Progress} (I : InProgress c) where
   header-given {d} {e} {r} z w =
       let t = line-taken (header (c .size)) d e r w in
       record {
-        goes-on = record { sized = I .sized; staged = omega arith; none-yet = λ q. absurd (omega arith); within = I .within; counted = I .counted; after = I .after };
+        goes-on = record { sized = I .sized; staged = omega arith; none-yet = λ q. absurd (omega arith); within = I .within; counted = I .counted; run-after = I .run-after };
         same-size = refl;
         fits = t .1;
         text = rw (t .0, z, I .none-yet z) (append-nil (header (c .size)));
@@ -55,7 +55,7 @@ module _ {c : Progress} (I : InProgress c) where
   last-given {d} {e} {r} z q w =
       let t = line-taken (totals (c .listed) (c .kept)) d e r w in
       record {
-        goes-on = record { sized = I .sized; staged = omega arith; none-yet = λ q. absurd (omega arith); within = I .within; counted = I .counted; after = I .after };
+        goes-on = record { sized = I .sized; staged = omega arith; none-yet = λ q. absurd (omega arith); within = I .within; counted = I .counted; run-after = I .run-after };
         same-size = refl;
         fits = t .1;
         text = rw (t .0, z, I .counted, q) (sym (append-assoc (header (c .size)) (rows (c .size) 0 (count (c .size))) (totals (count (c .size)) (keptAmong (c .size) 0 (count (c .size))))));
@@ -63,7 +63,7 @@ module _ {c : Progress} (I : InProgress c) where
       }
 
   stands : RunAt (c .size) (c .listed) (c .run)
-  stands = record { sized = I .sized; within = I .within; is = I .after }
+  stands = record { sized = I .sized; within = I .within; is = I .run-after }
 
   -- the rows that follow
   rows-given-at : {k m j : ℕ} {next : Run} {a b : List ℕ} → c .stage ≡ 1 → c .listed < count (c .size) → k ≡ min 128 (count (c .size) - c .listed)
@@ -81,7 +81,7 @@ module _ {c : Progress} (I : InProgress c) where
           none-yet = λ q. absurd (omega arith);
           within = omega arith;
           counted = rw (I .counted, T .kept-are) (sym t);
-          after = T .next-is;
+          run-after = T .next-is;
         };
         same-size = refl;
         fits = over-within (rows n p k) a m b (T .bytes-are) (T .written);

@@ -26,7 +26,7 @@ pub record InProgress (c : Progress) : Type 0 where
   pub none-yet : c .stage ≡ 0 → c .listed ≡ 0
   pub within : c .listed ≤ count (c .size)
   pub counted : c .kept ≡ keptAmong (c .size) 0 (c .listed)
-  pub after : c .run ≡ runAfter (c .size) (c .listed)
+  pub run-after : c .run ≡ runAfter (c .size) (c .listed)
 
 abbrev pub printedAt : ℕ → ℕ → ℕ → List ℕ
 printedAt zero n p = []

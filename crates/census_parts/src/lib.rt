@@ -63,7 +63,7 @@ fn rows_part(progress: Progress, out: &mut [u8]) -> Part
     let run = progress.run;
     let done = run_text::rows(run, 128, out);
     let answer = done.answer;
-    let after = done.run;
+    let next = done.run;
     match answer {
         RowsAnswer::Rows { rows, bytes, kept } => Part {
             progress: Progress {
@@ -71,7 +71,7 @@ fn rows_part(progress: Progress, out: &mut [u8]) -> Part
                 stage: 1,
                 listed: progress.listed + rows,
                 kept: progress.kept + kept,
-                run: after,
+                run: next,
             },
             bytes: bytes as usize,
         },
