@@ -1,5 +1,5 @@
-/* Two sessions divide the 22 rooted diagrams of size 6, of which the first rows are printed. One of them falls asleep, its ticket lapses, the other one takes its share over, and
- * what the sleeper then says too late is refused. In the end the report says complete, with 22 committed. */
+/* Two sessions divide the 22 rooted diagrams of size 6, of which the first rows are printed. One of them falls asleep, its ticket lapses, the
+ * other one takes its share over, and what the sleeper then says too late is refused. In the end the report says complete, with 22 committed. */
 #include "kaldvemir.h"
 
 #include <inttypes.h>
@@ -26,7 +26,7 @@ static void expect(const char *call, uint16_t answer, uint16_t expected) {
     }
 }
 
-/* The first rows of the census of that size. */
+/* The first rows of the census of size 6. */
 static void print_rows(void) {
     kaldvemir_run run;
     uint8_t bytes[ROWS * KALDVEMIR_ROW_BYTES(SIZE)];
