@@ -1,12 +1,12 @@
-/* Two sessions divide the 22 rooted diagrams of size 6. One of them falls asleep, its ticket lapses, the other one takes its share over, and
- * what the sleeper then says too late is refused. In the end the report says complete, with 22 committed. */
+/* Two sessions divide the 22 rooted diagrams of size 6, of which the first rows are printed. One of them falls asleep, its ticket lapses, the
+ * other one takes its share over, and what the sleeper then says too late is refused. In the end the report says complete, with 22 committed. */
 #include "kaldvemir.h"
 
 #include <inttypes.h>
 #include <stdio.h>
 #include <stdlib.h>
 
-enum { SIZE = 6, SHARES = 3, COUNT = 22, LEASE = 10 };
+enum { SIZE = 6, SHARES = 3, COUNT = 22, LEASE = 10, ROWS = 3 };
 
 static kaldvemir_book book;
 static uint64_t tick;
@@ -24,6 +24,16 @@ static void expect(const char *call, uint16_t answer, uint16_t expected) {
         fprintf(stderr, "%s answered %u and not %u\n", call, (unsigned)answer, (unsigned)expected);
         exit(EXIT_FAILURE);
     }
+}
+
+/* The first rows of the census of size 6. */
+static void print_rows(void) {
+    kaldvemir_run run;
+    uint8_t bytes[ROWS * KALDVEMIR_ROW_BYTES(SIZE)];
+    uint64_t given, written, kept;
+    expect("begin", kaldvemir_begin(SIZE, &run), 0);
+    expect("rows", kaldvemir_rows(&run, ROWS, bytes, sizeof bytes, &given, &written, &kept), 0);
+    printf("the first %" PRIu64 " of %d rows, of which %" PRIu64 " are kept:\n%.*s", given, COUNT, kept, (int)written, (const char *)bytes);
 }
 
 static void claim_share(session *s, uint64_t share) {
@@ -70,6 +80,7 @@ int main(void) {
     session ada = {"Ada", 0, 0, 0}, ben = {"Ben", 0, 0, 0};
     uint64_t committed, complete;
 
+    print_rows();
     expect("open", kaldvemir_open(&book, SIZE, SHARES), 0);
     claim_share(&ada, 1);
     claim_share(&ben, 2);

@@ -10,7 +10,7 @@
  * their type; no list, book, run or number that is written overlaps any other that is passed. Nothing is kept after the return, nothing is
  * allocated, and there is no state but what the caller lends: distinct books and runs may be used from distinct threads.
  *
- * What is passed to be read must be initialised before the call: numbers, lists behind a pointer to const, a run that is stepped or listed, a
+ * What is passed to be read must be initialised before the call: numbers, lists behind a pointer to const, a run that is not being begun, a
  * book that is not being opened. What is passed to be written need not be: numbers and lists behind the other pointers, the run before
  * kaldvemir_begin and kaldvemir_begin_at, the book before kaldvemir_open. Nothing there is read before the call has written it, and a refused call leaves it alone, so
  * that after a refusal it is as uninitialised as it was.
@@ -33,6 +33,9 @@ extern "C" {
 #define KALDVEMIR_MAX_SIZE 1024
 #define KALDVEMIR_MAX_LISTED 50
 #define KALDVEMIR_MAX_SHARES 32
+
+/* Bytes enough for a row of size n, as kaldvemir_rows writes it. */
+#define KALDVEMIR_ROW_BYTES(n) (9 * (size_t)(n) + 40)
 
 /* A run: its size, whether it is fresh (0), at a diagram (1) or finished (2), and the word it is at; unused items are 0.
  * 54 numbers of 16 bits, one after another. */
@@ -139,6 +142,14 @@ uint16_t kaldvemir_list(kaldvemir_run *run, uint64_t rows, uint16_t *s0, size_t 
 uint16_t kaldvemir_list_marked(kaldvemir_run *run, uint64_t rows, uint16_t *s0, size_t s0_len, uint16_t *s1, size_t s1_len,
                                uint16_t *words, size_t words_len, uint16_t *lengths, size_t lengths_len, uint8_t *marks, size_t marks_len,
                                uint64_t *given);
+
+/* Run, rows as text: writes the rows of the next diagrams of the run's size, at most `rows` of them, over the beginning of bytes, as the census
+ * prints them: position, word in letters, s0, s1, e2, e3, c, t, level, and K where the diagram is kept, otherwise a hyphen; one space between
+ * them, a newline at the end, no 0 after it. *given is how many rows there are, *written how many bytes, *kept how many of their diagrams are kept.
+ * The run is left as *given steps would leave it: where all are given that were left, at its last diagram and not finished. A finished run
+ * gives none. 34; 9 the run is not finished and bytes has fewer than rows KALDVEMIR_ROW_BYTES(n) places. */
+uint16_t kaldvemir_rows(kaldvemir_run *run, uint64_t rows, uint8_t *bytes, size_t bytes_len, uint64_t *given, uint64_t *written,
+                        uint64_t *kept);
 
 /* ---- the share book. All but open refuse 50, a book that is not valid; all but open and report then 52, a tick below the latest or from 2^48
  * on. A refused call leaves the book as it was; an accepted one keeps its tick as the latest. */

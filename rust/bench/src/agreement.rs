@@ -293,12 +293,13 @@ fn sums() {
 fn censuses() {
     for size in [1, 2, 3, 4, 9, 13] {
         let page = || Page::new(Some(Vec::new()));
-        let (mut a, mut b, mut c, mut d) = (page(), page(), page(), page());
+        let (mut a, mut b, mut c, mut d, mut e) = (page(), page(), page(), page(), page());
         let kept = census::by_blocks(size, &mut a);
         equal("census", kept, census::by_steps(&census::LIBRARY, size, &mut b));
         equal("census", kept, census::by_steps(&census::SAME, size, &mut c));
         equal("census", kept, census::by_generator(size, &mut d));
-        let [a, others @ ..] = [a, b, c, d].map(|page| page.kept.map(String::from_utf8));
+        equal("census", kept, census::by_rows(size, &mut e));
+        let [a, others @ ..] = [a, b, c, d, e].map(|page| page.kept.map(String::from_utf8));
         others.iter().for_each(|other| equal("census", &a, other));
     }
 }

@@ -1,6 +1,6 @@
 //! The library as callers in Rust have it, with the signatures of the baselines: an answer, or the number of the refusal.
 use crate::blocks::Block;
-use kaldvemir::{Book, Invariants, Refusal, Run, Taken};
+use kaldvemir::{Book, Invariants, Refusal, Rows, Run, Taken};
 
 pub fn check(s0: &[u16], s1: &[u16], root: u64) -> Result<(), u16> {
     kaldvemir::check(s0, s1, root).map_err(Refusal::number)
@@ -50,6 +50,11 @@ pub fn list(run: &mut Run, rows: u64, Block { s0, s1, words, lengths, .. }: &mut
 
 pub fn list_marked(run: &mut Run, rows: u64, Block { s0, s1, words, lengths, marks, .. }: &mut Block) -> Result<u64, u16> {
     run.list_marked(rows, s0, s1, words, lengths, marks).map_err(Refusal::number)
+}
+
+/// How many rows and bytes were written, and how many diagrams are kept.
+pub fn rows(run: &mut Run, rows: u64, bytes: &mut [u8]) -> Result<Rows, u16> {
+    run.rows(rows, bytes).map_err(Refusal::number)
 }
 
 pub fn open(book: &mut Book, size: u64, shares: u64) -> Result<(), u16> {

@@ -8,7 +8,7 @@ pub mod whole;
 use crate::timing::{Row, Work};
 
 /// The name of each row, and how it is set up.
-pub const ROWS: [(&str, fn() -> Row); 27] = [
+pub const ROWS: [(&str, fn() -> Row); 28] = [
     ("check 1024", given::check),
     ("read word 1024", given::read_word),
     ("relabel 1024", given::relabel_large),
@@ -32,6 +32,7 @@ pub const ROWS: [(&str, fn() -> Row); 27] = [
     ("whole list 22", whole::list_22),
     ("whole list 20 with keep marks", whole::marked_20),
     ("whole list 22 with keep marks", whole::marked_22),
+    ("rows of size 20", census::whole_rows),
     ("whole list 20 by steps", whole::list_20_by_steps),
     ("whole list 22 by steps", whole::list_22_by_steps),
     ("whole list 20 marked, by steps", whole::marked_20_by_steps),

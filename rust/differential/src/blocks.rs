@@ -1,9 +1,9 @@
 //! Listing in blocks: blocks from any place, with and without keep marks, from damaged runs too, and whole lists to the end.
 use crate::given::outcome;
 use crate::lists::{overwritten, room};
+use crate::outcomes::{Compared, Difference, OutcomeCounts};
 use crate::random::Random;
 use crate::runs::{anywhere, damage, library_run, reference_run};
-use crate::outcomes::{Compared, Difference, OutcomeCounts};
 use kaldvemir::Refusal;
 use reference::{Block, BlockRooms, Run};
 
@@ -18,9 +18,9 @@ struct Lists {
 }
 
 /// How many places so many rows need. Of rows that no list can hold: what is left of the product in 64 bits, if that is few, else a few rows' places.
-fn places(rows: u64, each: u64) -> usize {
+pub fn places(rows: u64, each: u64) -> usize {
     let product = rows.wrapping_mul(each);
-    (if product <= 10_000 { product } else { 3 * each }) as usize
+    (if product <= 20_000 { product } else { 3 * each }) as usize
 }
 
 impl Lists {
@@ -52,7 +52,7 @@ impl Lists {
 }
 
 /// The kind of an accepted answer.
-fn kind(run: &Run, rows: u64, given: u64) -> &'static str {
+pub fn kind(run: &Run, rows: u64, given: u64) -> &'static str {
     match (run.stage, rows) {
         (2, _) => "finished",
         (_, 0) => "no rows",
@@ -81,7 +81,7 @@ fn block(run: &mut Run, rows: u64, before: &Lists, marked: bool, counts: &mut Ou
 }
 
 /// How many diagrams a valid run still has before it.
-fn left(run: &Run) -> u64 {
+pub fn left(run: &Run) -> u64 {
     let count = reference::count(run.size.into()).expect("a size in range");
     match run.stage {
         0 => count,
@@ -93,8 +93,9 @@ fn left(run: &Run) -> u64 {
     }
 }
 
-/// A number of rows: none, one, a few, about all that are left where those are not many, or more than any list can hold.
-fn rows(random: &mut Random, n: u64, left: u64) -> u64 {
+/// A number of rows, of which each wants so many places: none, one, a few, about all that are left where those are not many, or more than any list
+/// can hold.
+pub fn rows(random: &mut Random, each: [u64; 2], left: u64) -> u64 {
     let ending = left <= 150;
     match random.below(20) {
         0 => 0,
@@ -103,7 +104,7 @@ fn rows(random: &mut Random, n: u64, left: u64) -> u64 {
         5 | 6 if ending => left + 1,
         7..=9 if ending => left + random.between(0, 20),
         10 => random.near(&[1 << 32, 1 << 62, 1 << 63, u64::MAX]),
-        11 => random.near(&[u64::MAX / n, u64::MAX / (n + 1)]).wrapping_add(1),
+        11 => random.near(&each.map(|each| u64::MAX / each)).wrapping_add(1),
         _ => random.between(1, 12),
     }
 }
@@ -112,7 +113,8 @@ fn rows(random: &mut Random, n: u64, left: u64) -> u64 {
 fn blocks(random: &mut Random, marked: bool, counts: &mut OutcomeCounts) -> Compared {
     let mut run = anywhere(random, 75);
     for _ in 0..1 + random.below(4) {
-        let rows = rows(random, run.size.into(), left(&run));
+        let n = u64::from(run.size);
+        let rows = rows(random, [n, n + 1], left(&run));
         if random.percent(15) {
             damage(random, &mut run);
         }

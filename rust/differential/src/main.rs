@@ -15,6 +15,7 @@ mod listed;
 mod lists;
 mod outcomes;
 mod random;
+mod rows;
 mod runs;
 
 use outcomes::{Compared, OutcomeCounts};
@@ -34,10 +35,11 @@ const PIECE: u64 = 5_000;
 type Comparison = fn(&mut Random, &mut OutcomeCounts) -> Compared;
 
 /// Each comparison with the operations it compares.
-const COMPARISONS: [(Comparison, &[&str]); 22] = [
+const COMPARISONS: [(Comparison, &[&str]); 23] = [
     (given::kept, &["kept"]),
     (blocks::list_marked, &["list marked"]),
     (blocks::list, &["list"]),
+    (rows::rows, &["rows"]),
     (given::symmetries, &["symmetries"]),
     (given::compare_unrooted, &["compare unrooted"]),
     (given::compare_rooted, &["compare rooted"]),
@@ -62,13 +64,14 @@ const COMPARISONS: [(Comparison, &[&str]); 22] = [
 /// The largest size that is run through whole.
 const WHOLE: u16 = 14;
 
-/// A piece of work, by its number: first the whole runs, by steps and in blocks, then every comparison in turn.
+/// A piece of work, by its number: first the whole runs, by steps, in blocks and as rows, then every comparison in turn.
 fn piece(number: usize, seed: u64, counts: &mut OutcomeCounts) -> Compared {
     let mut random = Random::new(seed, number as u64);
     if number < usize::from(WHOLE) {
         let size = number as u16 + 1;
         runs::whole(size, &mut random, counts)?;
-        return blocks::whole(size, &mut random, counts);
+        blocks::whole(size, &mut random, counts)?;
+        return rows::whole(size, &mut random, counts);
     }
     let (comparison, operations) = COMPARISONS[(number - usize::from(WHOLE)) % COMPARISONS.len()];
     while operations.iter().any(|operation| counts.inputs(operation) < PIECE) {

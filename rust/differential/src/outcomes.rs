@@ -21,7 +21,7 @@ pub struct Difference {
 pub type Compared = Result<(), Box<Difference>>;
 
 /// Every operation with the kinds of its accepted answers and its refusals: each is to be met.
-pub const OPERATIONS: [(&str, &[&str], &[u16]); 29] = [
+pub const OPERATIONS: [(&str, &[&str], &[u16]); 30] = [
     ("check", &["accepted"], GIVEN),
     ("all reached", &["yes", "no"], &[]),
     ("relabel", &["accepted"], &[1, 2, 3, 4, 5, 6, 7, 8, 9]),
@@ -42,6 +42,7 @@ pub const OPERATIONS: [(&str, &[&str], &[u16]); 29] = [
     ("step", &["diagram", "end"], &[34, 9]),
     ("list", &["all", "fewer", "no rows", "finished"], &[34, 9]),
     ("list marked", &["all", "fewer", "no rows", "finished"], &[34, 9]),
+    ("rows", &["all", "fewer", "no rows", "finished"], &[34, 9]),
     ("open", &["accepted"], &[31, 51]),
     ("claim", &["accepted"], &[50, 52, 53, 54, 55, 56, 57]),
     ("take", &["accepted"], &[50, 52, 58, 59, 9]),

@@ -1,8 +1,8 @@
 //! Runs: beginnings, steps from any place, damaged runs, and whole runs to the end.
 use crate::given::{accepted, outcome};
 use crate::lists::Lists;
-use crate::random::Random;
 use crate::outcomes::{Compared, Difference, OutcomeCounts};
+use crate::random::Random;
 use kaldvemir::Refusal;
 use reference::{Run, Written};
 
@@ -22,18 +22,18 @@ pub fn begin(random: &mut Random, counts: &mut OutcomeCounts) -> Compared {
 }
 
 /// A beginning at a position, often near the ends of the listing, and a few steps of an accepted one.
-pub fn begin_at(random: &mut Random, tally: &mut Tally) -> Compared {
+pub fn begin_at(random: &mut Random, counts: &mut OutcomeCounts) -> Compared {
     let size = if random.percent(85) { random.between(1, 50) } else { random.near(&[0, 1, 50]) };
     let count = reference::count(size).unwrap_or(1000);
     let position = if random.percent(50) { random.between(0, count) } else { random.near(&[0, 1, count]) };
     let library = kaldvemir::Run::begin_at(size, position).map_err(Refusal::number).map(|run| reference_run(&run));
     let reference = Run::begin_at(size, position);
     let kind = outcome(&reference, |run| if run.stage == 0 { "fresh" } else { "at a diagram" });
-    tally.compare("begin at", kind, &library, &reference, &(size, position))?;
+    counts.compare("begin at", kind, &library, &reference, &(size, position))?;
     if let Ok(mut run) = reference {
         for _ in 0..random.below(3) {
             let lists = Lists::any(random, run.size.into());
-            step(&mut run, &lists, tally)?;
+            step(&mut run, &lists, counts)?;
         }
     }
     Ok(())

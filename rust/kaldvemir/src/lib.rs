@@ -29,5 +29,5 @@ pub use books::{Book, Report, Taken};
 pub use given::{all_reached, check, compare_rooted, compare_unrooted, invariants, kept, relabel, symmetries, Invariants};
 pub use listed::{count, diagram_at, plain_walk, position};
 pub use refusals::{Refusal, Side, Sided};
-pub use runs::Run;
+pub use runs::{row_bytes, Rows, Run};
 pub use words::{lesser, letters, read_word};

@@ -50,6 +50,9 @@ extern "C" {
         run: *mut Run, rows: u64, s0: *mut u16, s0_len: usize, s1: *mut u16, s1_len: usize,
         words: *mut u16, words_len: usize, lengths: *mut u16, lengths_len: usize, marks: *mut u8, marks_len: usize, given: *mut u64,
     ) -> u16;
+    fn kaldvemir_rows(
+        run: *mut Run, rows: u64, bytes: *mut u8, bytes_len: usize, given: *mut u64, written: *mut u64, kept: *mut u64,
+    ) -> u16;
     fn kaldvemir_open(book: *mut Book, size: u64, shares: u64) -> u16;
     fn kaldvemir_claim(book: *mut Book, tick: u64, share: u64, length: u64, ticket: *mut u64) -> u16;
     fn kaldvemir_take(
@@ -200,6 +203,12 @@ pub(crate) fn list_marked(
             words.as_mut_ptr(), words.len(), lengths.as_mut_ptr(), lengths.len(), marks.as_mut_ptr(), marks.len(), given,
         )
     }
+}
+
+/// The three values are how many rows, how many bytes, and how many diagrams are kept.
+#[inline]
+pub(crate) fn rows(run: &mut Run, rows: u64, bytes: &mut [u8], [given, written, kept]: &mut [u64; 3]) -> u16 {
+    unsafe { kaldvemir_rows(run, rows, bytes.as_mut_ptr(), bytes.len(), given, written, kept) }
 }
 
 #[inline]

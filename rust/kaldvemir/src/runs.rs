@@ -1,4 +1,4 @@
-//! The run: the diagrams of a size one after another, by single steps or in blocks.
+//! The run: the diagrams of a size one after another, by single steps, in blocks, or as the rows of the census.
 use crate::answers::{answered, given, left, length, UNWRITTEN};
 use crate::raw;
 use crate::Refusal;
@@ -15,6 +15,22 @@ pub struct Run {
     pub length: u16,
     /// The items of that word; unused ones are 0.
     pub items: [u16; 51],
+}
+
+/// What [`rows`](Run::rows) gives beside the text.
+#[derive(Clone, Copy, Debug, PartialEq, Eq, Hash)]
+pub struct Rows {
+    /// How many rows were written.
+    pub rows: u64,
+    /// How many bytes they have.
+    pub bytes: usize,
+    /// How many of their diagrams are kept.
+    pub kept: u64,
+}
+
+/// Bytes enough for a row of size n, as [`rows`](Run::rows) writes it.
+pub const fn row_bytes(n: usize) -> usize {
+    9 * n + 40
 }
 
 impl Run {
@@ -54,6 +70,28 @@ impl Run {
         &mut self, rows: u64, s0: &mut [u16], s1: &mut [u16], words: &mut [u16], lengths: &mut [u16], marks: &mut [u8],
     ) -> Result<u64, Refusal> {
         given(|given| raw::list_marked(self, rows, [s0, s1, words, lengths], marks, given))
+    }
+
+    /// Rows as text: writes the rows of the next diagrams, at most `rows` of them, over the beginning of `bytes`, as the census prints them:
+    /// position, word in letters, s0, s1, e2, e3, c, t, level, K or a hyphen, newline. The run is left as that many steps would leave it: where
+    /// all are given that were left, at its last diagram and not finished. Refuses 34; a finished run then gives none; 9 where there are fewer
+    /// than `rows` times [`row_bytes`]`(n)` bytes.
+    ///
+    /// ```
+    /// use kaldvemir::{row_bytes, Rows, Run};
+    /// let mut run = Run::begin(3).unwrap();
+    /// let mut bytes = [0; 2 * row_bytes(3)];
+    /// let given = run.rows(2, &mut bytes).unwrap();
+    /// assert_eq!(given, Rows { rows: 2, bytes: 62, kept: 2 });
+    /// assert_eq!(&bytes[..given.bytes], b"1 TWWW 2,3,1 1,2,3 3 0 1 0 3 K\n2 TWJ0 2,3,1 2,1,3 1 0 2 0 2 K\n");
+    /// ```
+    #[inline]
+    pub fn rows(&mut self, rows: u64, bytes: &mut [u8]) -> Result<Rows, Refusal> {
+        let mut values = [UNWRITTEN; 3];
+        let answer = answered(raw::rows(self, rows, bytes, &mut values));
+        left(answer, values == [UNWRITTEN; 3])?;
+        let [rows, bytes, kept] = values;
+        Ok(Rows { rows, bytes: usize::try_from(bytes).expect("a length of a list"), kept })
     }
 }
 

@@ -107,6 +107,88 @@ fn rows_of_a_block() {
     assert_eq!(run.list_marked(u64::MAX, &mut [], &mut [], &mut [], &mut [], &mut []), Ok(0));
 }
 
+/// The rows of size 3, from 01.
+const ROWS_OF_3: [&str; 4] = [
+    "1 TWWW 2,3,1 1,2,3 3 0 1 0 3 K\n",
+    "2 TWJ0 2,3,1 2,1,3 1 0 2 0 2 K\n",
+    "3 TJ0W 2,3,1 1,3,2 1 0 2 0 2 -\n",
+    "4 TJ1W 2,3,1 3,2,1 1 0 2 0 2 -\n",
+];
+
+/// Calls rows with so many bytes that are all a full stop, and returns the answer and what they hold after it.
+fn rows_of(run: &mut Run, rows: u64, room: usize) -> (Result<Rows, Refusal>, String) {
+    let mut bytes = vec![b'.'; room];
+    let answer = run.rows(rows, &mut bytes);
+    (answer, String::from_utf8(bytes).unwrap())
+}
+
+#[test]
+fn rows_as_text() {
+    let whole = ROWS_OF_3.concat();
+    let room = 4 * row_bytes(3);
+    let rest = |bytes: usize| ".".repeat(room - bytes);
+    // All that there are, in one call; the run stands at its last diagram, as after four steps, and gives no more.
+    let mut run = Run::begin(3).unwrap();
+    assert_eq!(rows_of(&mut run, 4, room), (Ok(Rows { rows: 4, bytes: 124, kept: 2 }), whole.clone() + &rest(124)));
+    assert_eq!(run, Run::begin_at(3, 4).unwrap());
+    assert_eq!((rows_of(&mut run, 4, room), &run), ((Ok(Rows { rows: 0, bytes: 0, kept: 0 }), rest(0)), &Run::begin_at(3, 4).unwrap()));
+    // From each position, some of them or all that are left.
+    for first in 0..4 {
+        for asked in 0..=4 {
+            let mut run = Run::begin_at(3, first as u64).unwrap();
+            let text = ROWS_OF_3[first..4.min(first + asked)].concat();
+            let given = Rows { rows: text.lines().count() as u64, bytes: text.len(), kept: text.matches('K').count() as u64 };
+            assert_eq!(rows_of(&mut run, asked as u64, room), (Ok(given), text + &rest(given.bytes)));
+            assert_eq!(run, Run::begin_at(3, first as u64 + given.rows).unwrap());
+        }
+    }
+}
+
+#[test]
+fn rows_refused_or_none() {
+    // One byte less than 9 n + 40 for each row asked for, also where fewer are left; no rows need none.
+    for position in 0..=4 {
+        let run = Run::begin_at(3, position).unwrap();
+        for (asked, room) in [(1, 66), (2, 133), (5, 334), (1, 0), (u64::MAX / 67 + 1, 335), (u64::MAX, 335)] {
+            let mut short = run.clone();
+            assert_eq!((rows_of(&mut short, asked, room), &short), ((Err(Refusal::OutputShort), ".".repeat(room)), &run));
+        }
+        let mut none = run.clone();
+        assert_eq!((rows_of(&mut none, 0, 0), &none), ((Ok(Rows { rows: 0, bytes: 0, kept: 0 }), String::new()), &run));
+    }
+    // A finished run gives none, however short the list.
+    let finished = Run { size: 3, stage: 2, length: 0, items: [0; 51] };
+    let mut run = finished.clone();
+    for (asked, room) in [(0, 0), (1, 0), (u64::MAX, 3), (4, 268)] {
+        assert_eq!((rows_of(&mut run, asked, room), &run), ((Ok(Rows { rows: 0, bytes: 0, kept: 0 }), ".".repeat(room)), &finished));
+    }
+    // Neither fresh, nor at a diagram, nor finished; asked before the length of the list is.
+    let mut damaged = Run::begin_at(3, 2).unwrap();
+    damaged.items[50] = 1;
+    for before in [damaged, Run { stage: 3, ..finished.clone() }, Run { size: 0, ..finished.clone() }, Run { size: 51, ..finished }] {
+        for (asked, room) in [(1, 67), (1, 0), (0, 0)] {
+            let mut run = before.clone();
+            assert_eq!((rows_of(&mut run, asked, room), &run), ((Err(Refusal::RunInvalid), ".".repeat(room)), &before));
+        }
+    }
+}
+
+/// The least bytes that are enough by the bound, at the last rows of the largest size.
+#[test]
+fn rows_of_the_largest_size() {
+    let last = count(50).unwrap();
+    let mut run = Run::begin_at(50, last - 3).unwrap();
+    let (answer, bytes) = rows_of(&mut run, 3, 3 * row_bytes(50));
+    let given = answer.unwrap();
+    let text = &bytes[..given.bytes];
+    assert_eq!((given.rows, text.lines().count(), run), (3, 3, Run::begin_at(50, last).unwrap()));
+    for (line, place) in text.lines().zip(last - 2..) {
+        assert_eq!((line.split(' ').next().unwrap(), line.split(' ').count()), (&place.to_string()[..], 10));
+        assert!(line.len() < row_bytes(50));
+    }
+    assert!(bytes[given.bytes..].bytes().all(|byte| byte == b'.'));
+}
+
 #[test]
 fn a_book_to_its_end() {
     let mut book = Book::blank();

@@ -11,6 +11,7 @@ mod diagrams;
 mod isomorphism;
 mod labelling;
 mod listing;
+mod rows;
 mod runs;
 mod words;
 
@@ -19,6 +20,7 @@ pub use diagrams::{all_reached, check, invariants, Invariants};
 pub use isomorphism::{compare_rooted, compare_unrooted, Lent};
 pub use labelling::{kept, relabel, symmetries};
 pub use listing::{all_words, count, diagram_at, plain_walk, position};
+pub use rows::Rows;
 pub use runs::{Block, BlockRooms, Run};
 pub use words::{letters, read_word, second_is_less};
 

@@ -1,6 +1,7 @@
 //! The run, as a place in the order: its word's position, and 1, is the next.
 use crate::labelling::kept;
 use crate::listing::{count, position_of, word_at, written};
+use crate::rows::Rows;
 use crate::words::spelled;
 use crate::{short, Rooms, Written};
 
@@ -67,6 +68,14 @@ impl Run {
             }
     }
 
+    /// How many diagrams a valid run that is not finished has given.
+    fn position(&self) -> u64 {
+        match self.stage {
+            0 => 0,
+            _ => position_of(self.size.into(), &self.items[..usize::from(self.length)]),
+        }
+    }
+
     /// Step: the diagram written, or `None` at the end. 34; a finished run's end; 9.
     pub fn step(&mut self, rooms: Rooms) -> Result<Option<Written>, u16> {
         if !self.is_valid() {
@@ -79,7 +88,7 @@ impl Run {
         if short(n, rooms) {
             return Err(9);
         }
-        let position = if self.stage == 0 { 1 } else { position_of(n, &self.items[..usize::from(self.length)]) + 1 };
+        let position = self.position() + 1;
         if position > count(self.size.into())? {
             *self = Run { size: self.size, stage: 2, length: 0, items: [0; 51] };
             return Ok(None);
@@ -122,6 +131,30 @@ impl Run {
         let given = self.steps(rows, short)?;
         let marks = given.iter().map(|next| kept(&next.s0, &next.s1, 1).map(u8::from)).collect::<Result<_, u16>>()?;
         Ok(Block { marks, ..Block::of(&given) })
+    }
+
+    /// Rows as text: 34; a finished run's none; 9, fewer than 9 n + 40 bytes for each row asked for. They are the diagrams at the positions that
+    /// follow, and the run goes to the last of them.
+    pub fn rows(&mut self, rows: u64, room: usize) -> Result<Rows, u16> {
+        if !self.is_valid() {
+            return Err(34);
+        }
+        let mut given = Rows::default();
+        if self.stage == 2 {
+            return Ok(given);
+        }
+        let n = usize::from(self.size);
+        if (room as u128) < u128::from(rows) * (9 * n as u128 + 40) {
+            return Err(9);
+        }
+        let before = self.position();
+        let last = before.saturating_add(rows).min(count(self.size.into())?);
+        for position in before + 1..=last {
+            let next = written(word_at(n, position));
+            given.push(position, &next)?;
+            self.go_to(&next.word);
+        }
+        Ok(given)
     }
 }
 

@@ -98,6 +98,34 @@ fn blocks_give_the_listing_and_end() {
     }
 }
 
+#[test]
+fn rows_give_the_listing() {
+    for n in 1..=8_usize {
+        let (mut run, mut given, mut kept) = (Run::begin(n as u64).unwrap(), vec![], 0);
+        loop {
+            let position = given.len() as u64;
+            assert_eq!((run.rows(3, 27 * n + 119), run.rows(0, 0), run.rows(u64::MAX, 1000)), (Err(9), Ok(Rows::default()), Err(9)));
+            assert_eq!(Run::begin_at(n as u64, position).as_ref(), Ok(&run));
+            let rows = run.rows(3, 27 * n + 120).unwrap();
+            let text = String::from_utf8(rows.text).unwrap();
+            given.extend(text.lines().map(String::from));
+            kept += rows.kept;
+            assert_eq!(given.len() as u64, position + rows.rows);
+            if rows.rows < 3 {
+                break;
+            }
+        }
+        let words = all_words(n).into_iter().map(|word| String::from_utf8(letters(&word, 60).unwrap()).unwrap());
+        let begin = |line: &String| line.split(' ').take(2).collect::<Vec<_>>().join(" ");
+        assert_eq!(given.iter().map(begin).collect::<Vec<_>>(), (1..).zip(words).map(|(p, word)| format!("{p} {word}")).collect::<Vec<_>>());
+        assert_eq!(kept, given.iter().filter(|line| line.ends_with(" K")).count() as u64);
+        // The run is at its last diagram; a step finishes it, and then it gives none.
+        assert_eq!((run.step(ROOMY), run.rows(u64::MAX, 0)), (Ok(None), Ok(Rows::default())));
+        run.items[50] = 1;
+        assert_eq!(run.rows(0, 0), Err(34));
+    }
+}
+
 /// Words compare as isomorphism does, over all pairs of a size; a symmetry is an isomorphism of the diagram with itself.
 #[test]
 fn equal_words_are_isomorphisms() {

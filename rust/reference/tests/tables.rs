@@ -46,18 +46,15 @@ fn words_of_sizes_1_to_4() {
 
 #[test]
 fn census_of_size_3() {
-    let census = [
-        "1 TWWW [2, 3, 1] [1, 2, 3] 3 0 1 0 3 K",
-        "2 TWJ0 [2, 3, 1] [2, 1, 3] 1 0 2 0 2 K",
-        "3 TJ0W [2, 3, 1] [1, 3, 2] 1 0 2 0 2 -",
-        "4 TJ1W [2, 3, 1] [3, 2, 1] 1 0 2 0 2 -",
-    ];
-    for (position, line) in (1..).zip(census) {
-        let Written { s0, s1, word } = diagram_at(3, position, ROOMY).unwrap();
-        let Invariants { e2, e3, c, t, level } = invariants(&s0, &s1, 1).unwrap();
-        let mark = if kept(&s0, &s1, 1).unwrap() { 'K' } else { '-' };
-        assert_eq!(format!("{position} {} {s0:?} {s1:?} {e2} {e3} {c} {t} {level} {mark}", text(&word)), line);
-    }
+    let census = "\
+1 TWWW 2,3,1 1,2,3 3 0 1 0 3 K
+2 TWJ0 2,3,1 2,1,3 1 0 2 0 2 K
+3 TJ0W 2,3,1 1,3,2 1 0 2 0 2 -
+4 TJ1W 2,3,1 3,2,1 1 0 2 0 2 -
+";
+    let mut run = Run::begin(3).unwrap();
+    assert_eq!(run.rows(9, 9 * 67), Ok(Rows { rows: 4, text: census.bytes().collect(), kept: 2 }));
+    assert_eq!(run, Run::at(3, 4));
 }
 
 #[test]

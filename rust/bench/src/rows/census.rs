@@ -1,6 +1,6 @@
 //! The census. The letters, the invariants and the keep mark of a line are each side's own; the rest of the line is written by the code that
 //! all sides share. The library lists in blocks with keep marks, while the baseline of the same method goes by single steps and asks whether each
-//! diagram is kept; the row by steps has the library do the same.
+//! diagram is kept; the row by steps has the library do the same. In the row of whole rows the library writes all of the text, beside the generator.
 use crate::blocks;
 use crate::generator::{generate, kept_known};
 use kaldvemir::Invariants;
@@ -40,6 +40,24 @@ pub fn by_blocks(size: usize, page: &mut Page) -> u64 {
     blocks::list(size, library::list_marked, |block, given| block.each(given, &mut line));
     page.flush();
     kept
+}
+
+/// How many rows the library is asked for at a time.
+const ROWS: u64 = 128;
+
+/// The same, all of the text by the library. The rows of a call lie in one page.
+pub fn by_rows(size: usize, page: &mut Page) -> u64 {
+    let mut run = library::begin(size as u64).unwrap();
+    let mut kept = 0;
+    loop {
+        let given = library::rows(&mut run, ROWS, &mut page.bytes).unwrap();
+        kept += given.kept;
+        page.at = given.bytes;
+        page.flush();
+        if given.rows < ROWS {
+            return kept;
+        }
+    }
 }
 
 /// The same by single steps.
@@ -94,6 +112,13 @@ fn row(name: &'static str, bar: Option<f64>, library: fn(&mut Page) -> u64) -> R
         Box::new(move || by_generator(20, &mut c)),
     ];
     Row { name, calls: count_of(20), bar, sides }
+}
+
+/// The text of a whole list, beside the generator alone.
+pub fn whole_rows() -> Row {
+    let (mut a, mut b) = (Page::new(None), Page::new(None));
+    let sides: Vec<Work> = vec![Box::new(move || by_rows(20, &mut a)), Box::new(move || by_generator(20, &mut b))];
+    Row { name: "rows of size 20", calls: count_of(20), bar: Some(2.0), sides }
 }
 
 pub fn census() -> Row {

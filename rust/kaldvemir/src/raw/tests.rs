@@ -92,6 +92,17 @@ fn short_blocks() {
     }
 }
 
+/// Two rows of four edges want 152 bytes; numbers of rows whose products do not fit 64 bits, or leave little of it.
+#[test]
+fn short_bytes() {
+    let wide = [u64::MAX / 76 + 1, 1 << 62, u64::MAX].map(|rows| (rows, 152));
+    for (rows_asked, room) in [(2, 151), (1, 75), (1, 0)].into_iter().chain(wide) {
+        let (mut run, mut bytes, mut values) = (Run::begin(4).unwrap(), [7; 152], [WIDE; 3]);
+        assert_eq!(rows(&mut run, rows_asked, &mut bytes[..room], &mut values), 9);
+        assert_eq!((run, bytes, values), (Run::begin(4).unwrap(), [7; 152], [WIDE; 3]));
+    }
+}
+
 #[test]
 fn refused_words_and_sizes() {
     let (mut s0, mut s1, mut words, mut letters_out, mut out) = ([MARK; 2], [MARK; 2], [MARK; 1024], [7; 3], WIDE);
@@ -113,12 +124,14 @@ fn refused_runs() {
     assert_eq!((begin_at(0, 0, &mut run), begin_at(51, u64::MAX, &mut run), begin_at(3, 5, &mut run)), (31, 31, 32));
     let [s0, s1, word] = &mut lists;
     assert_eq!(step(&mut run, s0, s1, word, &mut out), 34);
-    let (mut lengths, mut marks) = ([MARK; 1], [7; 1]);
-    for rows in [0, 1, u64::MAX] {
-        assert_eq!(list(&mut run, rows, [s0, s1, word, &mut lengths], &mut out), 34);
-        assert_eq!(list_marked(&mut run, rows, [s0, s1, word, &mut lengths], &mut marks, &mut out), 34);
+    let (mut lengths, mut marks, mut bytes, mut values) = ([MARK; 1], [7; 1], [7; 600], [WIDE; 3]);
+    for asked in [0, 1, u64::MAX] {
+        assert_eq!(list(&mut run, asked, [s0, s1, word, &mut lengths], &mut out), 34);
+        assert_eq!(list_marked(&mut run, asked, [s0, s1, word, &mut lengths], &mut marks, &mut out), 34);
+        assert_eq!(rows(&mut run, asked, &mut bytes, &mut values), 34);
     }
     assert_eq!((run, lists, lengths, marks, out), (before, [[MARK; 60]; 3], [MARK; 1], [7; 1], WIDE));
+    assert_eq!((bytes, values), ([7; 600], [WIDE; 3]));
 }
 
 #[test]
