@@ -31,7 +31,7 @@ use Rattle.run_answers.specs.declared.Run.{Run}
 use Rattle.run_answers.specs.Promises.{RunAt, runAfter}
 use Rattle.run_validity.proofs.Runs.{stands-once}
 use Rattle.run_rows_writing.specs.Promises.{ShortRows, RunAfterRows, RowsGiven}
-use Rattle.run_blocks_marked.proofs.Whole.{gave-holds}
+use Rattle.run_blocks_answers.proofs.Given.{gave-holds}
 use Rattle.run_row.specs.Rows.{flatWords}
 use Rattle.listing.proofs.Spelled.{spelled-of, black-length, white-length}
 use Rattle.run_marks.specs.Marks.{MarkOf, Marks, BlockHeld, MarksWritten}

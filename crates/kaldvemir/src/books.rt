@@ -58,7 +58,7 @@ pub extern "C" fn kaldvemir_take(
         × (now (length .exit) ≡ answers.taking-length a (now (length .entry)))
         × (now (book .exit) ≡ book-numbers next)) ⌝ }
 {
-    let a = kaldvemir_book::take(book, tick, ticket, s0, s1, word);
+    let a = kaldvemir_book_take::take(book, tick, ticket, s0, s1, word);
     take_answer(a, share, position, length)
 }
 
@@ -72,7 +72,7 @@ pub extern "C" fn kaldvemir_commit(
     ensures { λ r. ⌜ (r ≡ answers.committing-number (commit-answer (book-of (now (book .entry))) tick ticket position))
         × (now (book .exit) ≡ book-numbers (commit-book (book-of (now (book .entry))) tick ticket position)) ⌝ }
 {
-    commit_answer(kaldvemir_book::commit(book, tick, ticket, position))
+    commit_answer(kaldvemir_book_commit::commit(book, tick, ticket, position))
 }
 
 #[no_mangle]
@@ -86,7 +86,7 @@ pub extern "C" fn kaldvemir_commit_range(
     ensures { λ r. ⌜ (r ≡ answers.committing-number (commit-range-answer (book-of (now (book .entry))) tick ticket first last))
         × (now (book .exit) ≡ book-numbers (commit-range-book (book-of (now (book .entry))) tick ticket first last)) ⌝ }
 {
-    commit_answer(kaldvemir_book::commit_range(book, tick, ticket, first, last))
+    commit_answer(kaldvemir_book_commit::commit_range(book, tick, ticket, first, last))
 }
 
 #[no_mangle]

@@ -1,12 +1,10 @@
 // The share book's operations on a book that lies with the caller as 100 numbers: an operation looks at them where they are, and writes those that
-// it alters.
+// it alters. Take and commit are in crates kaldvemir_book_take and kaldvemir_book_commit.
 use book::Book;
 use book::Claiming;
-use book::Committing;
 use book::Opening;
 use book::Releasing;
 use book::Reporting;
-use book::Taking;
 use book_opening::open_core;
 use kaldvemir_layout_book::change;
 use kaldvemir_layout_book::expiries;
@@ -15,9 +13,7 @@ use kaldvemir_layout_book::nexts;
 use kaldvemir_layout_book::put_back;
 use kaldvemir_layout_book::tickets;
 ghost use mathlib.Core.Path.{_≡_};
-ghost use Rattle.book.specs.Calls.{open-answer, open-book, claim-answer, claim-book, commit-answer, commit-book, commit-range-answer, commit-range-book, release-answer, release-book, report-answer};
-ghost use Rattle.book.specs.Taken.{TakePromise};
-ghost use Rattle.book.specs.declared.types.Book.{Book};
+ghost use Rattle.book.specs.Calls.{open-answer, open-book, claim-answer, claim-book, release-answer, release-book, report-answer};
 ghost use Rattle.kaldvemir_layout_book.specs.Layout.{book-of, book-numbers};
 
 // A book of zeros, for open to decide on: it tests nothing of the book that it is to alter.
@@ -66,83 +62,6 @@ pub fn claim(book: &mut [u64; 100], tick: u64, share: u64, length: u64) -> Claim
         tick,
         share,
         length,
-    );
-    let answer = choice.answer;
-    let altered = choice.change;
-    change(book, altered);
-    answer
-}
-
-pub fn take(
-    book: &mut [u64; 100],
-    tick: u64,
-    ticket: u64,
-    s0: &mut [u16],
-    s1: &mut [u16],
-    word: &mut [u16],
-) -> Taking
-    ensures { λ r. ⌜ ((next : Book)
-        × TakePromise (book-of (now (book .entry))) tick ticket (now (s0 .entry)) (now (s1 .entry)) (now (word .entry)) r next (now (s0 .exit)) (now (s1 .exit)) (now (word .exit))
-        × (now (book .exit) ≡ book-numbers next)) ⌝ }
-{
-    let numbers: &[u64] = book;
-    let choice = book_decisions::take(
-        heads(numbers),
-        nexts(numbers),
-        tickets(numbers),
-        expiries(numbers),
-        tick,
-        ticket,
-        s0,
-        s1,
-        word,
-    );
-    let answer = choice.answer;
-    let altered = choice.change;
-    change(book, altered);
-    answer
-}
-
-pub fn commit(book: &mut [u64; 100], tick: u64, ticket: u64, position: u64) -> Committing
-    ensures { λ r. ⌜ (r ≡ commit-answer (book-of (now (book .entry))) tick ticket position)
-        × (now (book .exit) ≡ book-numbers (commit-book (book-of (now (book .entry))) tick ticket position)) ⌝ }
-{
-    let numbers: &[u64] = book;
-    let choice = book_decisions::commit(
-        heads(numbers),
-        nexts(numbers),
-        tickets(numbers),
-        expiries(numbers),
-        tick,
-        ticket,
-        position,
-    );
-    let answer = choice.answer;
-    let altered = choice.change;
-    change(book, altered);
-    answer
-}
-
-pub fn commit_range(
-    book: &mut [u64; 100],
-    tick: u64,
-    ticket: u64,
-    first: u64,
-    last: u64,
-) -> Committing
-    ensures { λ r. ⌜ (r ≡ commit-range-answer (book-of (now (book .entry))) tick ticket first last)
-        × (now (book .exit) ≡ book-numbers (commit-range-book (book-of (now (book .entry))) tick ticket first last)) ⌝ }
-{
-    let numbers: &[u64] = book;
-    let choice = book_decisions::commit_range(
-        heads(numbers),
-        nexts(numbers),
-        tickets(numbers),
-        expiries(numbers),
-        tick,
-        ticket,
-        first,
-        last,
     );
     let answer = choice.answer;
     let altered = choice.change;

@@ -1,6 +1,6 @@
 use native.Mathlib.Omega.{arith}
 use borrow.Author.Needs.{needs}
-use Rattle.run_blocks_marked.proofs.Whole.{gave-holds, gave-few}
+use Rattle.run_blocks_answers.proofs.Given.{gave-holds, gave-few}
 use Rattle.census_blocks.proofs.Texts.{lists-room, block-whole}
 use Rattle.census_blocks.proofs.put_block.Statement.{statement}
 use Rattle.census_blocks.proofs.put_block.Tie as tie

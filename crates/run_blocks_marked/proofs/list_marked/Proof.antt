@@ -4,7 +4,8 @@ use mathlib.Core.Path.{refl}
 use mathlib.Core.Logic.{inl, inr}
 use native.Mathlib.Omega.{arith}
 use Rattle.run_blocks_answers.proofs.Refusals.{same-lists}
-use Rattle.run_blocks_marked.proofs.Whole.{gave-holds, gave-few, gave-marked, refused-marked}
+use Rattle.run_blocks_answers.proofs.Given.{gave-holds, gave-few}
+use Rattle.run_blocks_marked.proofs.Whole.{gave-marked, refused-marked}
 use Rattle.run_blocks_marked.proofs.list_marked.Statement.{statement}
 use Rattle.run_blocks_marked.proofs.list_marked.Tie as tie
 

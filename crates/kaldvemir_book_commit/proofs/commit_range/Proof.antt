@@ -2,8 +2,8 @@
 use mathlib.Core.Path.{_∙_, ap}
 use Rattle.kaldvemir_layout_book.specs.Layout.{book-numbers}
 use borrow.Author.Needs.{needs}
-use Rattle.kaldvemir_book.proofs.commit_range.Statement.{statement}
-use Rattle.kaldvemir_book.proofs.commit_range.Tie as tie
+use Rattle.kaldvemir_book_commit.proofs.commit_range.Statement.{statement}
+use Rattle.kaldvemir_book_commit.proofs.commit_range.Tie as tie
 
 heads-requires : tie.Need-heads-requires
 heads-requires c κs = search needs

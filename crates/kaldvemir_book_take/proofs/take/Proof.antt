@@ -3,8 +3,8 @@ use denote.Ref.{now}
 use Rattle.book.specs.Changes.{changed}
 use Rattle.kaldvemir_layout_book.specs.Layout.{book-of}
 use borrow.Author.Needs.{needs}
-use Rattle.kaldvemir_book.proofs.take.Statement.{statement}
-use Rattle.kaldvemir_book.proofs.take.Tie as tie
+use Rattle.kaldvemir_book_take.proofs.take.Statement.{statement}
+use Rattle.kaldvemir_book_take.proofs.take.Tie as tie
 
 heads-requires : tie.Need-heads-requires
 heads-requires c κs = search needs
