@@ -1,12 +1,13 @@
-/* Two sessions divide the 22 rooted diagrams of size 6, of which the first rows are printed. One of them falls asleep, its ticket lapses, the
- * other one takes its share over, and what the sleeper then says too late is refused. In the end the report says complete, with 22 committed. */
+/* The diagrams of the sizes 1 to 3 come in a single list. Then two sessions divide the 22 rooted diagrams of size 6, of which the first rows are
+ * printed. One of them falls asleep, its ticket lapses, the other one takes its share over, and what the sleeper then says too late is refused.
+ * In the end the report says complete, with 22 committed. */
 #include "kaldvemir.h"
 
 #include <inttypes.h>
 #include <stdio.h>
 #include <stdlib.h>
 
-enum { SIZE = 6, SHARES = 3, COUNT = 22, LEASE = 10, ROWS = 3 };
+enum { BOUND = 3, UPTO_COUNT = 6, UPTO_VISITS = 6, SIZE = 6, SHARES = 3, COUNT = 22, LEASE = 10, ROWS = 3 };
 
 static kaldvemir_book book;
 static uint64_t tick;
@@ -22,6 +23,29 @@ typedef struct {
 static void expect(const char *call, uint16_t answer, uint16_t expected) {
     if (answer != expected) {
         fprintf(stderr, "%s answered %u and not %u\n", call, (unsigned)answer, (unsigned)expected);
+        exit(EXIT_FAILURE);
+    }
+}
+
+/* All diagrams of the sizes 1 to 3, each with the branch visits so far. */
+static void print_upto(void) {
+    kaldvemir_run run;
+    uint16_t s0[BOUND], s1[BOUND], word[BOUND + 1];
+    uint8_t letters[3 * (BOUND + 1)];
+    uint64_t visits, size, length, count, given = 0;
+    expect("upto begin", kaldvemir_upto_begin(BOUND, &run, &visits), 0);
+    for (;;) {
+        expect("upto step", kaldvemir_upto_step(&run, &visits, s0, BOUND, s1, BOUND, word, BOUND + 1, &size, &length), 0);
+        if (length == 0) {
+            break;
+        }
+        given += 1;
+        expect("letters", kaldvemir_letters(word, length, letters, sizeof letters, &count), 0);
+        printf("size %" PRIu64 ", visits %" PRIu64 ": %.*s\n", size, visits, (int)count, (const char *)letters);
+    }
+    printf("%" PRIu64 " diagrams of the sizes 1 to %d\n", given, BOUND);
+    if (given != UPTO_COUNT || visits != UPTO_VISITS) {
+        fprintf(stderr, "not %d diagrams with %d visits\n", UPTO_COUNT, UPTO_VISITS);
         exit(EXIT_FAILURE);
     }
 }
@@ -80,6 +104,7 @@ int main(void) {
     session ada = {"Ada", 0, 0, 0}, ben = {"Ben", 0, 0, 0};
     uint64_t committed, complete;
 
+    print_upto();
     print_rows();
     expect("open", kaldvemir_open(&book, SIZE, SHARES), 0);
     claim_share(&ada, 1);

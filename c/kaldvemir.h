@@ -10,10 +10,11 @@
  * their type; no list, book, run or number that is written overlaps any other that is passed. Nothing is kept after the return, nothing is
  * allocated, and there is no state but what the caller lends: distinct books and runs may be used from distinct threads.
  *
- * What is passed to be read must be initialised before the call: numbers, lists behind a pointer to const, a run that is not being begun, a
- * book that is not being opened. What is passed to be written need not be: numbers and lists behind the other pointers, the run before
- * kaldvemir_begin and kaldvemir_begin_at, the book before kaldvemir_open. Nothing there is read before the call has written it, and a refused call leaves it alone, so
- * that after a refusal it is as uninitialised as it was.
+ * What is passed to be read must be initialised before the call: numbers, lists behind a pointer to const, a run that is not being begun and
+ * the visits beside it, a book that is not being opened. What is passed to be written need not be: numbers and lists behind the other
+ * pointers, the run before kaldvemir_begin and kaldvemir_begin_at, the run and its visits before kaldvemir_upto_begin, the book before
+ * kaldvemir_open. Nothing there is read before the call has written it, and a refused call leaves it alone, so that after a refusal it is as
+ * uninitialised as it was.
  *
  * A diagram is lent as s0, s1 and root: entry i - 1 of s0 (of s1) is the next edge round the black (white) vertex of edge i. A diagram that
  * is written has root 1 and fills the first places of its lists; the rest is untouched.
@@ -38,7 +39,7 @@ extern "C" {
 #define KALDVEMIR_ROW_BYTES(n) (9 * (size_t)(n) + 40)
 
 /* A run: its size, whether it is fresh (0), at a diagram (1) or finished (2), and the word it is at; unused items are 0.
- * 54 numbers of 16 bits, one after another. */
+ * 54 numbers of 16 bits, one after another. A run through all sizes up to a bound has its bound in the place of the size. */
 typedef struct {
     uint16_t size;
     uint16_t stage;
@@ -150,6 +151,20 @@ uint16_t kaldvemir_list_marked(kaldvemir_run *run, uint64_t rows, uint16_t *s0, 
  * gives none. 34; 9 the run is not finished and bytes has fewer than rows KALDVEMIR_ROW_BYTES(n) places. */
 uint16_t kaldvemir_rows(kaldvemir_run *run, uint64_t rows, uint8_t *bytes, size_t bytes_len, uint64_t *given, uint64_t *written,
                         uint64_t *kept);
+
+/* ---- all sizes up to a bound: the diagrams of the sizes 1 to bound, at most 50, as a single list in dictionary order of words. Beside the run
+ * stand the branch visits so far: how many different lists are a beginning, non-empty and shorter than the word that it begins, of a word
+ * given so far. They are 0 where the run is fresh, and the last diagram's where it is finished. */
+
+/* Run through all sizes, beginning: writes the fresh run and its visits. 31 bound outside 1..50. */
+uint16_t kaldvemir_upto_begin(uint64_t bound, kaldvemir_run *run, uint64_t *visits);
+
+/* Run through all sizes, step: writes the next diagram and its word, the diagram's size and the word's length, and moves the run and the visits on
+ * to them. After the last diagram, and whenever the run is finished, it writes a size and a length of 0, and leaves the lists alone and the run
+ * finished: "end". 34 the run is neither fresh, nor at a diagram of a size up to its bound, nor finished, or the visits are not its own; 9 an output
+ * list is short for the diagram that comes (its size n, n, and n + 1 for the word): at "end" none is. */
+uint16_t kaldvemir_upto_step(kaldvemir_run *run, uint64_t *visits, uint16_t *s0, size_t s0_len, uint16_t *s1, size_t s1_len,
+                             uint16_t *word, size_t word_len, uint64_t *size, uint64_t *length);
 
 /* ---- the share book. All but open refuse 50, a book that is not valid; all but open and report then 52, a tick below the latest or from 2^48
  * on. A refused call leaves the book as it was; an accepted one keeps its tick as the latest. */

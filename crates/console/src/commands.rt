@@ -25,6 +25,8 @@ fn on_command(
     entries: &[u16],
     values: [u64; 16],
     run: &mut [u16; 54],
+    upto: &mut [u16; 54],
+    visits: &mut u64,
     book: &mut [u64; 100],
     s0: &mut [u16],
     s1: &mut [u16],
@@ -39,7 +41,19 @@ fn on_command(
         return on_fields(letter, entries, values, run, book, words);
     }
     if letter < b'a' {
-        return on_state(letter, values, run, book, s0, s1, words, lengths, bytes);
+        return on_state(
+            letter,
+            values,
+            run,
+            upto,
+            visits,
+            book,
+            s0,
+            s1,
+            words,
+            lengths,
+            bytes,
+        );
     }
     on_diagrams(letter, entries, values, s0, s1, words, bytes)
 }
@@ -51,6 +65,8 @@ fn respond<'a>(
     arguments: Arguments,
     entries: &[u16],
     run: &mut [u16; 54],
+    upto: &mut [u16; 54],
+    visits: &mut u64,
     book: &mut [u64; 100],
     out: &mut [u8],
     place: usize,
@@ -73,6 +89,8 @@ fn respond<'a>(
         entries,
         values,
         run,
+        upto,
+        visits,
         book,
         &mut s0[0..r0],
         &mut s1[0..r1],
@@ -88,6 +106,8 @@ fn by_table(
     table: &[u8],
     line: &[u8],
     run: &mut [u16; 54],
+    upto: &mut [u16; 54],
+    visits: &mut u64,
     book: &mut [u64; 100],
     out: &mut [u8],
     place: usize,
@@ -97,15 +117,28 @@ fn by_table(
     let row = row_of(table, line);
     let mut entries = [0u16; ALL_ENTRIES];
     let arguments = read_arguments(row, line, &mut entries);
-    respond(table, row, arguments, &entries, run, book, out, place)
+    respond(
+        table,
+        row,
+        arguments,
+        &entries,
+        run,
+        upto,
+        visits,
+        book,
+        out,
+        place,
+    )
 }
 
 // The answer to a line, by the table of commands (crate console_commands). A small letter is that of a command that alters nothing, a capital that of
-// an operation on the run or the book, and a digit that of a command that prints or writes numbers of these. A line that begins with `#` is its own
+// an operation on the runs or the book, and a digit that of a command that prints or writes numbers of these. A line that begins with `#` is its own
 // answer.
 pub fn on_line(
     line: &[u8],
     run: &mut [u16; 54],
+    upto: &mut [u16; 54],
+    visits: &mut u64,
     book: &mut [u64; 100],
     out: &mut [u8],
     place: usize,
@@ -136,6 +169,7 @@ pub fn on_line(
         letters|tL4|5;\
         list|LN0123|A 0 1 2 3;\
         marked|MN01234|A 0 1 2 3 4;\
+        next|N012|A B 0 1 2|end;\
         open|ONN|ok;\
         position|pLLN|A;\
         reached|mL|no|yes;\
@@ -156,9 +190,13 @@ pub fn on_line(
         step|S012|0 1 2|end;\
         symmetries|sLLN|A;\
         take|TNN012|share A position B 0 1 2;\
+        upto|UN|ok;\
+        upto-visits|VN|ok;\
         walk|wN0|A 0",
         line,
         run,
+        upto,
+        visits,
         book,
         out,
         place,

@@ -28,6 +28,9 @@
 //   marked ROWS [R0 R1 RW RL RM]                   the same, and the keep marks
 //   run                                            SIZE STAGE LENGTH ITEMS, a list of 51; all zeros before any accepted begin
 //   set run SIZE STAGE LENGTH ITEMS                ok; writes the run, with zeros after at most 51 items; each field is 16 bits wide
+//   upto N                                         ok; begins a run through the sizes 1 to N, kept beside the plain one
+//   next [R0 R1 RW]                                SIZE VISITS S0 S1 WORD, its next diagram, or end; refused 34 before any accepted upto
+//   upto-visits V                                  ok; writes the visit number of that run
 //   open N K                                       ok
 //   claim TICK SHARE LENGTH                        ticket T
 //   take TICK TICKET [R0 R1 RW]                    share J position P S0 S1 WORD
@@ -58,6 +61,8 @@ fn answer(
     line: &[u8],
     none: bool,
     run: &mut [u16; 54],
+    upto: &mut [u16; 54],
+    visits: &mut u64,
     book: &mut [u64; 100],
     out: &mut [u8],
     place: usize,
@@ -67,13 +72,20 @@ fn answer(
     if none {
         return place;
     }
-    let end = on_line(line, run, book, out, place);
+    let end = on_line(line, run, upto, visits, book, out, place);
     put_byte(out, end, b'\n')
 }
 
 // Reads and answers to the end of the input. A proved loop has to end, and nothing says that the input does: so the turns are counted
 // down, from a number that no session uses up.
-fn session(input: &mut [u8], run: &mut [u16; 54], book: &mut [u64; 100], out: &mut [u8]) {
+fn session(
+    input: &mut [u8],
+    run: &mut [u16; 54],
+    upto: &mut [u16; 54],
+    visits: &mut u64,
+    book: &mut [u64; 100],
+    out: &mut [u8],
+) {
     let mut lines = no_lines();
     let mut place: usize = 0;
     let mut turns = u64::MAX;
@@ -83,7 +95,16 @@ fn session(input: &mut [u8], run: &mut [u16; 54], book: &mut [u64; 100], out: &m
         let end = lines.end;
         let waits = lines.waits;
         let ended = lines.ended;
-        let next = answer(&input[start..end], waits, run, book, out, place);
+        let next = answer(
+            &input[start..end],
+            waits,
+            run,
+            upto,
+            visits,
+            book,
+            out,
+            place,
+        );
         place = written(out, next, waits || ended);
         if ended {
             return;
@@ -92,11 +113,13 @@ fn session(input: &mut [u8], run: &mut [u16; 54], book: &mut [u64; 100], out: &m
     }
 }
 
-// The run is of no size at first, so that a step refuses it, and the book is all zeros.
+// The runs are of no size and no bound at first, so that a step refuses them, and the book is all zeros.
 fn main() {
     session(
         &mut [0u8; INPUT],
         &mut [0u16; 54],
+        &mut [0u16; 54],
+        &mut 0u64,
         &mut [0u64; 100],
         &mut [0u8; OUTPUT],
     );

@@ -1,7 +1,8 @@
-// The commands of the program console that alter the run and the share book, which lie with it as 54 and 100 numbers. Each calls the function
-// that callers in C have. The output lists are as long as the rooms.
+// The commands of the program console that alter the runs and the share book. The plain run lies with it as 54 numbers, the run through all sizes up to a
+// bound as 54 and its visits, and the book as 100. Each calls the function that callers in C have. The output lists are as long as the rooms.
 mod book;
 mod run;
+mod upto;
 
 use console_replies::Reply;
 
@@ -33,6 +34,8 @@ pub fn on_state(
     letter: u8,
     values: [u64; 16],
     run: &mut [u16; 54],
+    upto: &mut [u16; 54],
+    visits: &mut u64,
     book: &mut [u64; 100],
     s0: &mut [u16],
     s1: &mut [u16],
@@ -46,7 +49,10 @@ pub fn on_state(
         b'B' => run::begin(run, rows),
         b'L' => run::list(run, rows, s0, s1, words, lengths),
         b'M' => run::list_marked(run, rows, s0, s1, words, lengths, marks),
+        b'N' => upto::next(upto, visits, s0, s1, words),
         b'S' => run::step(run, s0, s1, words),
+        b'U' => upto::begin(upto, visits, rows),
+        b'V' => upto::set_visits(visits, rows),
         _ => on_book(letter, values, book, s0, s1, words),
     }
 }

@@ -7,3 +7,4 @@ pub mod given;
 pub mod listed;
 pub mod runs;
 pub mod spelling;
+pub mod upto;

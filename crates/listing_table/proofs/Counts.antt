@@ -1,9 +1,8 @@
 -- The counts of listed sizes fit: a count is the sum of two numbers of ways, which the table bounds.
-use mathlib.Core.Path.{_≡_}
-use Prim.Native.Nat.{ℕ, zero, suc, _+_, _^_, _≤_, _<_}
+use Prim.Native.Nat.{ℕ, zero, suc, _^_, _<_}
 use native.Mathlib.Omega.{arith}
 use Rattle.lists.specs.Ranges.{OneTo}
-use Rattle.listing.specs.Listing.{ways, count}
+use Rattle.listing.specs.Listing.{count}
 use Rattle.listing.proofs.Listing.{counted}
 use Rattle.listing_table.proofs.Table.{ways-small}
 

@@ -21,11 +21,11 @@ padded-long row l =
     omega arith
 
 -- no row is longer than 57
-abbrev Fit : List (List ℕ) → Type 0
+abbrev pub Fit : List (List ℕ) → Type 0
 Fit [] = Unit {0}
 Fit (row ∷ rs) = (length row ≤ 57) × Fit rs
 
-flat-at : (rs : List (List ℕ)) → Fit rs → (h f : ℕ) → f < 57 → getD (flatRows rs) (57 * h + f) 0 ≡ getD (getD rs h []) f 0
+pub flat-at : (rs : List (List ℕ)) → Fit rs → (h f : ℕ) → f < 57 → getD (flatRows rs) (57 * h + f) 0 ≡ getD (getD rs h []) f 0
 flat-at [] fit h f l = refl
 flat-at (row ∷ rs) fit zero f l =
     let i = padded-long row (fit .0) in

@@ -11,7 +11,8 @@ use Rattle.listing.proofs.Positions.{at-once}
 use Rattle.run_answers.specs.declared.Run.{Run}
 use Rattle.run_answers.specs.Promises.{finished, runAfter, RunAt, RunFinished}
 
-front : (u v x y : List ℕ) → length u ≡ length v → u ++ x ≡ v ++ y → u ≡ v
+-- two lists that are equal with what follows them, and equally long
+pub front : (u v x y : List ℕ) → length u ≡ length v → u ++ x ≡ v ++ y → u ≡ v
 front u v x y l e = sym (take-at u x (length v) l) ∙ ap (take (length v)) e ∙ take-at v y (length v) refl
 
 pub given-once : (n p n′ p′ : ℕ) → p ≤ count n → p′ ≤ count n′ → runAfter n p ≡ runAfter n′ p′ → (n ≡ n′) × (p ≡ p′)

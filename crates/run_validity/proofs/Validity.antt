@@ -10,6 +10,7 @@ use Rattle.lists.specs.Ranges.{OneTo}
 use Rattle.lists.proofs.Tests.{same?}
 use Rattle.lists.proofs.Lists.{length-0}
 use Rattle.words.specs.Shape.{Word}
+use Rattle.listing_successor.specs.Successor.{paddedWord}
 use Rattle.run_answers.specs.declared.Run.{Run}
 use Rattle.run_validity.specs.Valid.{Staged, ValidRun}
 
@@ -57,7 +58,7 @@ pub staged-word : (stage n : ℕ) (w : List ℕ) → Staged stage n w → (w ≡
 staged-word stage n w (inl s) = inr (s .1)
 staged-word stage n w (inr s) = inl (s .1)
 
--- ---- the fields of a run
+-- ---- a word in the first of 51 places
 
 -- the items from place l on, as a part of the list
 abbrev pub unused : List ℕ → ℕ → List ℕ
@@ -66,32 +67,50 @@ unused items l = take (51 - l) (drop l items)
 unused-is : (items : List ℕ) (l : ℕ) → length items ≡ 51 → unused items l ≡ drop l items
 unused-is items l n = take-all (51 - l) (drop l items) (rw (length-drop, n) (omega arith))
 
-module _ (run : Run) (n : length (run .items) ≡ 51) where
-  -- the word of a run, its unused items being 0
-  pub valid-yes : OneTo 50 (run .size) → run .length ≤ 51 → unused (run .items) (run .length) ≡ replicate (length (unused (run .items) (run .length))) 0 → Staged (run .stage) (run .size) (take (run .length) (run .items)) → ValidRun run
-  valid-yes e l z s = record { word = take (run .length) (run .items); sized = e; long = sym len; holds = sym (take-append-drop (run .length) (run .items)) ∙ ap (λ (t : List ℕ). take (run .length) (run .items) ++ t) rest; staged = s }
+module _ (items : List ℕ) (l : ℕ) (n : length items ≡ 51) where
+  -- the first l items are a word of that length, where there are so many,
+  pub held-length : l ≤ 51 → length (take l items) ≡ l
+  held-length i = length-take-le l items (omega arith)
+
+  -- and after them stand zeros, where the unused items are 0
+  pub held-items : l ≤ 51 → unused items l ≡ replicate (length (unused items l)) 0 → items ≡ paddedWord (take l items)
+  held-items i z = sym (take-append-drop l items) ∙ ap (λ (t : List ℕ). take l items ++ t) rest
     where
-      len : length (take (run .length) (run .items)) ≡ run .length
-      len = length-take-le (run .length) (run .items) (omega arith)
+      many : length (unused items l) ≡ 51 - length (take l items)
+      many = rw (unused-is items l n, length-drop, n, held-length i)
 
-      many : length (unused (run .items) (run .length)) ≡ 51 - length (take (run .length) (run .items))
-      many = rw (unused-is (run .items) (run .length) n, length-drop, n, len)
+      rest : drop l items ≡ replicate (51 - length (take l items)) 0
+      rest = sym (unused-is items l n) ∙ z ∙ ap (λ (k : ℕ). replicate k 0) many
 
-      rest : drop (run .length) (run .items) ≡ replicate (51 - length (take (run .length) (run .items))) 0
-      rest = sym (unused-is (run .items) (run .length) n) ∙ z ∙ ap (λ (k : ℕ). replicate k 0) many
+  module _ (w : List ℕ) (long : l ≡ length w) (holds : items ≡ paddedWord w) where
+    pub padded-length : l ≤ 51
+    padded-length = let a = ap length holds in let b = length-append w (replicate (51 - length w) 0) in let c = length-replicate {A = ℕ} (51 - length w) 0 in omega arith
 
-  module _ (S : ValidRun run) where
-    pub valid-length : run .length ≤ 51
-    valid-length = let a = ap length (S .holds) in let b = length-append (S .word) (replicate (51 - length (S .word)) 0) in let c = length-replicate {A = ℕ} (51 - length (S .word)) 0 in let d = S .long in omega arith
-
-    pub valid-unused : unused (run .items) (run .length) ≡ replicate (length (unused (run .items) (run .length))) 0
-    valid-unused = rw (unused-is (run .items) (run .length) n) (by (drop (run .length) (run .items)) (51 - length (S .word)) (rw (S .holds) (drop-at (S .word) _ (run .length) (sym (S .long)))))
+    pub padded-unused : unused items l ≡ replicate (length (unused items l)) 0
+    padded-unused = rw (unused-is items l n) (by (drop l items) (51 - length w) (rw holds (drop-at w _ l (sym long))))
       where
         by : (t : List ℕ) (k : ℕ) → t ≡ replicate k 0 → t ≡ replicate (length t) 0
         by t k e = rw (e, length-replicate)
 
+    pub padded-word : take l items ≡ w
+    padded-word = rw holds (take-at w _ l (sym long))
+
+-- ---- the fields of a run
+
+module _ (run : Run) (n : length (run .items) ≡ 51) where
+  -- the word of a run, its unused items being 0
+  pub valid-yes : OneTo 50 (run .size) → run .length ≤ 51 → unused (run .items) (run .length) ≡ replicate (length (unused (run .items) (run .length))) 0 → Staged (run .stage) (run .size) (take (run .length) (run .items)) → ValidRun run
+  valid-yes e l z s = record { word = take (run .length) (run .items); sized = e; long = sym (held-length (run .items) (run .length) n l); holds = held-items (run .items) (run .length) n l z; staged = s }
+
+  module _ (S : ValidRun run) where
+    pub valid-length : run .length ≤ 51
+    valid-length = padded-length (run .items) (run .length) n (S .word) (S .long) (S .holds)
+
+    pub valid-unused : unused (run .items) (run .length) ≡ replicate (length (unused (run .items) (run .length))) 0
+    valid-unused = padded-unused (run .items) (run .length) n (S .word) (S .long) (S .holds)
+
     pub valid-word : take (run .length) (run .items) ≡ S .word
-    valid-word = rw (S .holds) (take-at (S .word) _ (run .length) (sym (S .long)))
+    valid-word = padded-word (run .items) (run .length) n (S .word) (S .long) (S .holds)
 
     pub valid-staged : Staged (run .stage) (run .size) (take (run .length) (run .items))
     valid-staged = rw valid-word (S .staged)

@@ -10,7 +10,7 @@ ghost use lib.ListN.{length, replicate};
 ghost use Rattle.run_validity.specs.Valid.{Staged, ValidRun};
 
 // Whether all items are 0.
-fn zeros(items: &[u16]) -> bool
+pub fn zeros(items: &[u16]) -> bool
     ensures { λ r. ⌜ ((r ≡ true → now (items .entry) ≡ replicate (length (now (items .entry))) 0) × (r ≡ false → ¬ (now (items .entry) ≡ replicate (length (now (items .entry))) 0))) ⌝ }
 {
     let mut i: usize = 0;

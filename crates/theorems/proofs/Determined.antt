@@ -10,10 +10,12 @@ use Rattle.book.specs.Taken.{TakePromise}
 use Rattle.theorems.specs.Determined.{SameLists, Determined}
 pub mod Diagrams
 pub mod Rows
+pub mod Upto
 pub mod Texts
 use Rattle.theorems.proofs.Determined.Diagrams.{check-once, checked-once, all-reached-once, letters-once, gave-once, relabel-once, characteristic-once, compare-rooted-once, compare-unrooted-once, symmetries-once, kept-once, invariants-once, count-once, diagram-at-once, position-once, plain-walk-once}
 use Rattle.theorems.proofs.Determined.Texts.{rows-once}
 use Rattle.theorems.proofs.Determined.Rows.{begin-once, begin-at-once, step-once, list-once, list-marked-once}
+use Rattle.theorems.proofs.Determined.Upto.{upto-begin-once, upto-step-once}
 
 take-once : (book : Book) (tick t : ℕ) (a0 a1 aw : List ℕ) (r q : Taking) (b c : Book) (b0 b1 bw c0 c1 cw : List ℕ)
     → TakePromise book tick t a0 a1 aw r b b0 b1 bw → TakePromise book tick t a0 a1 aw q c c0 c1 cw
@@ -45,6 +47,8 @@ determined = record {
   begin-once = begin-once;
   begin-at-once = begin-at-once;
   step-once = λ run next other a0 a1 aw. step-once run a0 a1 aw next other;
+  upto-begin-once = upto-begin-once;
+  upto-step-once = λ run next other a0 a1 aw. upto-step-once run a0 a1 aw next other;
   rows-once = rows-once;
   list-once = list-once;
   list-marked-once = list-marked-once;

@@ -5,6 +5,8 @@ pub mod KeepMark
 pub mod FirstList
 pub mod Steps
 pub mod SecondList
+pub mod SingleList
+pub mod UptoSteps
 pub mod Blocks
 pub mod Demand3
 pub mod Corollaries

@@ -68,7 +68,7 @@ module _ (p : ℕ) (end next : Run) (s : Step) where
 -- ---- the rows that the steps handed back
 
 -- what was written over the beginning of a list, read off it again
-front-is : (n : ℕ) (x a b : List ℕ) → length x ≡ n → b ≡ overwrite x a → take n b ≡ x
+pub front-is : (n : ℕ) (x a b : List ℕ) → length x ≡ n → b ≡ overwrite x a → take n b ≡ x
 front-is n x a b l e = ap (take n) e ∙ take-at x (drop (length x) a) n l
 
 row-is : (n p m : ℕ) (s : Step) → p < count n → m ≡ length (wordAt n (suc p))
@@ -121,7 +121,7 @@ all-take P zero ws a = tt
 all-take P (suc k) [] a = tt
 all-take P (suc k) (w ∷ ws) a = (a .0, all-take P k ws (a .1))
 
-sorted-take : (k : ℕ) (ws : List (List ℕ)) → Sorted ws → Sorted (take k ws)
+pub sorted-take : (k : ℕ) (ws : List (List ℕ)) → Sorted ws → Sorted (take k ws)
 sorted-take zero ws s = tt
 sorted-take (suc k) [] s = tt
 sorted-take (suc k) (w ∷ ws) s = (all-take (Before w) k ws (s .0), sorted-take k ws (s .1))

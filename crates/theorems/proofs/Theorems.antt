@@ -4,6 +4,8 @@ use Rattle.theorems.proofs.Demand2.{demand-2}
 use Rattle.theorems.proofs.Demand3.{demand-3}
 use Rattle.theorems.proofs.Corollaries.{corollaries-hold}
 use Rattle.theorems.proofs.SecondList.{begun-at-holds}
+use Rattle.theorems.proofs.SingleList.{single-list-holds, visits-hold}
+use Rattle.theorems.proofs.UptoSteps.{upto-list-holds}
 use Rattle.theorems.proofs.Blocks.{blocks-are-steps, marked-blocks-are-steps, walk-agrees-holds}
 use Rattle.theorems.proofs.BookNumbers.{book-numbers}
 use Rattle.theorems.proofs.Determined.{determined}
@@ -18,6 +20,9 @@ theorems = record {
   blocks = blocks-are-steps;
   marked-blocks = marked-blocks-are-steps;
   walk = walk-agrees-holds;
+  single-list = single-list-holds;
+  visits = visits-hold;
+  upto-list = upto-list-holds;
   book-numbers = book-numbers;
   determined = determined;
   table = table;

@@ -40,6 +40,9 @@ use Rattle.run_answers.specs.declared.Stepping.{Stepping}
 use Rattle.run_steps.specs.Promises.{BeginPromise, BeginAtPromise, StepPromise}
 use Rattle.run_blocks_answers.specs.declared.Listing.{Listing}
 use Rattle.run_blocks.specs.Promises.{ListPromise, ListMarkedPromise}
+use Rattle.upto_answers.specs.declared.UptoRun.{UptoRun}
+use Rattle.upto_answers.specs.declared.UptoStepping.{UptoStepping}
+use Rattle.upto_answers.specs.Promises.{UptoBeginPromise, UptoStepPromise}
 use Rattle.run_text.specs.declared.RowsAnswer.{RowsAnswer}
 use Rattle.run_text.specs.Promises.{RowsPromise}
 use Rattle.book.specs.declared.types.Book.{Book}
@@ -85,6 +88,10 @@ pub record Determined : Type 0 where
   pub begin-once : (n : ℕ) (next other : Run) (r q : Beginning) → BeginPromise n next r → BeginPromise n other q → (r ≡ q) × (next ≡ other)
   pub begin-at-once : (n p : ℕ) (next other : Run) (r q : Beginning) → BeginAtPromise n p next r → BeginAtPromise n p other q → (r ≡ q) × (next ≡ other)
   pub step-once : (run next other : Run) (a0 a1 aw b0 b1 bw c0 c1 cw : List ℕ) (r q : Stepping) → StepPromise run next a0 a1 aw b0 b1 bw r → StepPromise run other a0 a1 aw c0 c1 cw q
+      → (r ≡ q) × (next ≡ other) × SameLists b0 b1 bw c0 c1 cw
+  -- the beginning and the step of a run through all sizes up to a bound
+  pub upto-begin-once : (n : ℕ) (next other : UptoRun) (r q : Beginning) → UptoBeginPromise n next r → UptoBeginPromise n other q → (r ≡ q) × (next ≡ other)
+  pub upto-step-once : (run next other : UptoRun) (a0 a1 aw b0 b1 bw c0 c1 cw : List ℕ) (r q : UptoStepping) → UptoStepPromise run next a0 a1 aw b0 b1 bw r → UptoStepPromise run other a0 a1 aw c0 c1 cw q
       → (r ≡ q) × (next ≡ other) × SameLists b0 b1 bw c0 c1 cw
   -- the text of the next rows
   pub rows-once : (run : Run) (asked : ℕ) (a : List ℕ) (next other : Run) (b c : List ℕ) (r q : RowsAnswer)

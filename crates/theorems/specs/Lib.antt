@@ -4,6 +4,8 @@ pub mod Demand2
 pub mod KeepMark
 pub mod FirstList
 pub mod SecondList
+pub mod SingleList
+pub mod UptoSteps
 pub mod Blocks
 pub mod Demand3
 pub mod Corollaries

@@ -11,7 +11,7 @@
 --   Table, Limits              01's table; its edges
 -- and from elsewhere: listing, count, wordAt, diagramAt (listing); letters (words, Letters); e2, .., level (invariants_cycles); MarkOf (run_blocks, Rows);
 -- wordOf, characteristic (labelling); Accepts, CheckPromise (diagrams, Check); readAnswer (words_reading, Read); first, last, ShareHolds (book);
--- CountPromise, DiagramAtPromise (listing_ranking, Promises); opened, claim-book, commit-answer (book, Calls).
+-- CountPromise, DiagramAtPromise (listing_ranking, Promises); total, visits (upto); opened, claim-book, commit-answer (book, Calls).
 use mathlib.Core.Path.{_≡_}
 use mathlib.Core.List.{List, [], _∷_, map}
 use mathlib.Core.Option.{some}
@@ -34,6 +34,8 @@ use Rattle.run_blocks.specs.Rows.{MarkOf}
 use Rattle.listing_ranking.specs.declared.Total.the-variants as total
 use Rattle.listing_ranking.specs.declared.Entry.the-variants as entry
 use Rattle.listing_ranking.specs.Promises.{CountPromise, DiagramAtPromise}
+use Rattle.upto.specs.Upto as upto
+use Rattle.upto.specs.Visits.{visits}
 use Rattle.book.specs.declared.types.Book.{Book}
 use Rattle.book.specs.declared.types.Committing.the-variants as committing
 use Rattle.book.specs.Shares.{first, last}
@@ -140,6 +142,8 @@ pub record Table : Type 0 where
   pub k : Share 4 3 1 1 2 × Share 4 3 2 3 5 × Share 4 3 3 6 8
   -- (l) size 1 in 32 shares: only share 32 holds a position
   pub l : ShareHolds 1 32 32 1 × ((share p : ℕ) → ShareHolds 1 32 share p → (share ≡ 32) × (p ≡ 1))
+  -- and request U1's example: the sizes 1 to 3 together are 6 diagrams and, at the last of them, 6 visits
+  pub upto-3 : (upto.total 3 ≡ 6) × (visits 3 6 ≡ 6)
 
 -- ---- the edges: the last that is taken and the first that is refused
 

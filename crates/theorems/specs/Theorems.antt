@@ -3,6 +3,8 @@ use Rattle.theorems.specs.Demand2.{Demand2}
 use Rattle.theorems.specs.Demand3.{Demand3}
 use Rattle.theorems.specs.Corollaries.{CorollariesHold}
 use Rattle.theorems.specs.SecondList.{BegunAtHolds}
+use Rattle.theorems.specs.SingleList.{SingleListHolds, VisitsHold}
+use Rattle.theorems.specs.UptoSteps.{UptoListHolds}
 use Rattle.theorems.specs.Blocks.{BlocksAreSteps, MarkedBlocksAreSteps, WalkAgreesHolds}
 use Rattle.theorems.specs.BookNumbers.{BookNumbers}
 use Rattle.theorems.specs.Determined.{Determined}
@@ -22,10 +24,16 @@ pub record Theorems : Type 0 where
   pub marked-blocks : MarkedBlocksAreSteps
   -- the plain walk agrees with the run
   pub walk : WalkAgreesHolds
+  -- the list of all sizes up to a bound is the union of their listings, sorted, with each rooted class once
+  pub single-list : SingleListHolds
+  -- the visits along it count the branches entered, and are at most 2 · diagrams - 1 at its end
+  pub visits : VisitsHold
+  -- the steps of a run through it give its diagrams in order, without a gap, and end after all
+  pub upto-list : UptoListHolds
   -- the share book's answers have 01's numbers
   pub book-numbers : BookNumbers
   -- every other promise leaves one answer, and one content of what was lent
   pub determined : Determined
-  -- 01's table (a) to (l), and the edges beside it
+  -- 01's table (a) to (l) and request U1's example, and the edges beside it
   pub table : Table
   pub limits : Limits

@@ -4,7 +4,7 @@ use crate::blocks;
 use crate::generator::{generate, kept_known};
 use crate::lines::Page;
 use crate::random::{Diagram, Random};
-use kaldvemir::{Book, Run};
+use kaldvemir::{Book, Run, UptoRun};
 use crate::rows::{books::opened, census, given::words, listing, whole};
 use crate::table::count_of;
 use crate::{letters, library, same, tuned};
@@ -16,6 +16,7 @@ pub fn all() {
     read(&mut random);
     at_positions(&mut random);
     runs(&mut random);
+    upto_runs(&mut random);
     books(&mut random);
     lists();
     lists_in_blocks();
@@ -144,28 +145,38 @@ fn at_positions(random: &mut Random) {
     }
 }
 
-type Step = fn(&mut Run, &mut [u16], &mut [u16], &mut [u16]) -> Result<usize, u16>;
+type Step<R, A> = fn(&mut R, &mut [u16], &mut [u16], &mut [u16]) -> Result<A, u16>;
 
-fn one_step(random: &mut Random, start: &Run, out: usize) -> Run {
+/// One step on a copy of the run for each side; returns the run as the library's step left it.
+fn one_step<R: Clone + PartialEq + Debug, A: PartialEq + Debug>(
+    random: &mut Random, start: &R, out: usize, library: Step<R, A>, plain: &[Step<R, A>],
+) -> R {
     let out = outputs(random, out);
-    let by = |step: Step| {
+    let by = |step: Step<R, A>| {
         move |o: &mut Outputs| {
             let mut run = start.clone();
             (step(&mut run, &mut o.s0, &mut o.s1, &mut o.word), run)
         }
     };
-    agree("step", out.clone(), by(library::step), by(same::run::step));
-    agree("step", out.clone(), by(library::step), by(tuned::run::step));
-    by(library::step)(&mut out.clone()).1
+    plain.iter().for_each(|&plain| agree("step", out.clone(), by(library), by(plain)));
+    by(library)(&mut out.clone()).1
+}
+
+fn run_step(random: &mut Random, start: &Run, out: usize) -> Run {
+    one_step(random, start, out, library::step, &[same::run::step, tuned::run::step])
+}
+
+fn upto_step(random: &mut Random, start: &UptoRun, out: usize) -> UptoRun {
+    one_step(random, start, out, library::upto_step, &[same::upto::step])
 }
 
 fn runs(random: &mut Random) {
     for size in 1..=12 {
         let mut run = library::begin(size).unwrap();
         while run.stage != 2 {
-            run = one_step(random, &run, size as usize);
+            run = run_step(random, &run, size as usize);
         }
-        one_step(random, &run, size as usize);
+        run_step(random, &run, size as usize);
     }
     for _ in 0..6000 {
         let size = 1 + random.below(50) as usize;
@@ -177,7 +188,33 @@ fn runs(random: &mut Random) {
             3 => run.items[random.below(51) as usize] = random.below(6) as u16,
             _ => {}
         }
-        one_step(random, &run, size);
+        run_step(random, &run, size);
+    }
+}
+
+fn upto_runs(random: &mut Random) {
+    for bound in 1..=10 {
+        let mut run = library::upto_begin(bound).unwrap();
+        while run.stage != 2 {
+            run = upto_step(random, &run, bound as usize);
+        }
+        upto_step(random, &run, 0);
+        run.visits -= 1;
+        upto_step(random, &run, 0);
+    }
+    for _ in 0..6000 {
+        let bound = 1 + random.below(50) as usize;
+        let size = 1 + random.below(bound as u64) as usize;
+        let mut run = listing::upto_run_at(bound, size, 1 + random.below(count_of(size)));
+        match random.below(10) {
+            0 => run.bound = random.below(53) as u16,
+            1 => run.stage = random.below(4) as u16,
+            2 => run.length = random.below(54) as u16,
+            3 => run.items[random.below(51) as usize] = random.below(6) as u16,
+            4 => run.visits = [0, run.visits - 1, run.visits + 1][random.below(3) as usize],
+            _ => {}
+        }
+        upto_step(random, &run, size);
     }
 }
 

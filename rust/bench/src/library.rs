@@ -1,6 +1,6 @@
 //! The library as callers in Rust have it, with the signatures of the baselines: an answer, or the number of the refusal.
 use crate::blocks::Block;
-use kaldvemir::{Book, Invariants, Refusal, Rows, Run, Taken};
+use kaldvemir::{Book, Invariants, Refusal, Rows, Run, Stepped, Taken, UptoRun};
 
 pub fn check(s0: &[u16], s1: &[u16], root: u64) -> Result<(), u16> {
     kaldvemir::check(s0, s1, root).map_err(Refusal::number)
@@ -41,6 +41,14 @@ pub fn begin(size: u64) -> Result<Run, u16> {
 /// The length of the word written, 0 at the end.
 pub fn step(run: &mut Run, s0: &mut [u16], s1: &mut [u16], word: &mut [u16]) -> Result<usize, u16> {
     run.step(s0, s1, word).map(|length| length.unwrap_or(0)).map_err(Refusal::number)
+}
+
+pub fn upto_begin(bound: u64) -> Result<UptoRun, u16> {
+    UptoRun::begin(bound).map_err(Refusal::number)
+}
+
+pub fn upto_step(run: &mut UptoRun, s0: &mut [u16], s1: &mut [u16], word: &mut [u16]) -> Result<Option<Stepped>, u16> {
+    run.step(s0, s1, word).map_err(Refusal::number)
 }
 
 /// How many diagrams were written.

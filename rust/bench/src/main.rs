@@ -1,8 +1,8 @@
 //! The library's speed beside plain Rust: a row for each operation, each figure the median of the repeats, with the bar that is set for it.
 //!
 //! The bar of 1.5 is set by a baseline that does the same by the same method in idiomatic Rust (`same`); a second one, plain Rust tuned by
-//! methods of its own (`tuned`), stands beside it for information. The bars of whole lists are set by Vidal's generator. Rows
-//! without a bar are for information.
+//! methods of its own (`tuned`), stands beside it for information. The bars of whole lists are set by Vidal's generator. A row "A to B" has the time of A
+//! beside that of B. Rows without a bar are for information.
 //!
 //! `bench [--quick] [NAME ..]`: the rows whose name contains one of the names, else all; `--quick` makes short repeats, for trying out.
 mod agreement;
@@ -33,6 +33,7 @@ fn main() -> ExitCode {
     println!("the library and both baselines agree on the inputs tried; now the times per call");
     println!("baseline: the same method in plain Rust (of the census by single steps), and of whole lists Vidal's generator");
     println!("tuned: plain Rust by methods of its own");
+    println!("upto step to run step: both of the library; visit test to upto step: both in plain Rust by the same method");
     timing::print_header();
     let mut missed = 0;
     for (name, row) in rows::ROWS {

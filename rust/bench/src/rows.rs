@@ -8,7 +8,7 @@ pub mod whole;
 use crate::timing::{Row, Work};
 
 /// The name of each row, and how it is set up.
-pub const ROWS: [(&str, fn() -> Row); 28] = [
+pub const ROWS: [(&str, fn() -> Row); 31] = [
     ("check 1024", given::check),
     ("read word 1024", given::read_word),
     ("relabel 1024", given::relabel_large),
@@ -18,6 +18,9 @@ pub const ROWS: [(&str, fn() -> Row); 28] = [
     ("kept 24, a stretch of the list", listing::kept_stretch),
     ("kept 24, random", listing::kept_random),
     ("run step 25", listing::steps),
+    ("upto step 25", listing::upto_steps),
+    ("upto step 25 to run step 25", listing::upto_steps_to_steps),
+    ("visit test 25 to upto step 25", listing::visit_tests),
     ("census line 20", census::census),
     ("census line 20 by steps", census::census_by_steps),
     ("claim 24, 32 shares", books::claim_32),

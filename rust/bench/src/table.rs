@@ -1,4 +1,4 @@
-//! The static table of counts, and the sizes that are listed.
+//! The static tables of counts, and the sizes that are listed.
 
 /// The largest size of a given diagram, and of a listed one.
 pub const MAX_SIZE: usize = 1024;
@@ -8,17 +8,23 @@ pub const MAX_LISTED: usize = 50;
 const BOUND: usize = 56;
 const ROWS: usize = BOUND / 3 + 1;
 
-/// How many ways there are to go on from a stack of height h with f labels free.
-pub static WAYS: [[u64; BOUND + 1]; ROWS] = ways();
+pub type Table = [[u64; BOUND + 1]; ROWS];
 
-const fn ways() -> [[u64; BOUND + 1]; ROWS] {
+/// How many ways there are to go on from a stack of height h with f labels free, using all of them.
+pub static WAYS: Table = sums(1, 0);
+
+/// How many beginnings of words there are from there on, this one counted, with labels left free or not.
+pub static BRANCHES: Table = sums(0, 1);
+
+/// What the states with a label pending sum to, from a state on, each of them counting `each`, and the end with no label free `end`.
+const fn sums(end: u64, each: u64) -> Table {
     let mut table = [[0; BOUND + 1]; ROWS];
-    table[0][0] = 1;
+    table[0][0] = end;
     let mut f = 0;
     while f <= BOUND {
         let mut h = 1;
         while 3 * h + f <= BOUND {
-            let mut sum = table[h - 1][f];
+            let mut sum = each + table[h - 1][f];
             if f >= 3 {
                 sum += table[h + 1][f - 3];
             }

@@ -17,6 +17,7 @@ mod outcomes;
 mod random;
 mod rows;
 mod runs;
+mod upto;
 
 use outcomes::{Compared, OutcomeCounts};
 use random::Random;
@@ -35,7 +36,7 @@ const PIECE: u64 = 5_000;
 type Comparison = fn(&mut Random, &mut OutcomeCounts) -> Compared;
 
 /// Each comparison with the operations it compares.
-const COMPARISONS: [(Comparison, &[&str]); 23] = [
+const COMPARISONS: [(Comparison, &[&str]); 25] = [
     (given::kept, &["kept"]),
     (blocks::list_marked, &["list marked"]),
     (blocks::list, &["list"]),
@@ -57,6 +58,8 @@ const COMPARISONS: [(Comparison, &[&str]); 23] = [
     (runs::begin, &["begin"]),
     (runs::begin_at, &["begin at"]),
     (runs::steps, &["step"]),
+    (upto::begin, &["upto begin"]),
+    (upto::steps, &["upto step"]),
     (books::open, &["open"]),
     (books::life, &["claim", "take", "commit", "commit range", "release", "report"]),
 ];
@@ -64,14 +67,18 @@ const COMPARISONS: [(Comparison, &[&str]); 23] = [
 /// The largest size that is run through whole.
 const WHOLE: u16 = 14;
 
-/// A piece of work, by its number: first the whole runs, by steps, in blocks and as rows, then every comparison in turn.
+/// The largest bound of sizes that is run through whole.
+const WHOLE_UPTO: u16 = 11;
+
+/// A piece of work, by its number: first the whole runs, by steps, in blocks, as rows and through all sizes, then every comparison in turn.
 fn piece(number: usize, seed: u64, counts: &mut OutcomeCounts) -> Compared {
     let mut random = Random::new(seed, number as u64);
     if number < usize::from(WHOLE) {
         let size = number as u16 + 1;
         runs::whole(size, &mut random, counts)?;
         blocks::whole(size, &mut random, counts)?;
-        return rows::whole(size, &mut random, counts);
+        rows::whole(size, &mut random, counts)?;
+        return if size <= WHOLE_UPTO { upto::whole(size, &mut random, counts) } else { Ok(()) };
     }
     let (comparison, operations) = COMPARISONS[(number - usize::from(WHOLE)) % COMPARISONS.len()];
     while operations.iter().any(|operation| counts.inputs(operation) < PIECE) {

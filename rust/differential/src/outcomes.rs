@@ -21,7 +21,7 @@ pub struct Difference {
 pub type Compared = Result<(), Box<Difference>>;
 
 /// Every operation with the kinds of its accepted answers and its refusals: each is to be met.
-pub const OPERATIONS: [(&str, &[&str], &[u16]); 30] = [
+pub const OPERATIONS: [(&str, &[&str], &[u16]); 33] = [
     ("check", &["accepted"], GIVEN),
     ("all reached", &["yes", "no"], &[]),
     ("relabel", &["accepted"], &[1, 2, 3, 4, 5, 6, 7, 8, 9]),
@@ -43,6 +43,10 @@ pub const OPERATIONS: [(&str, &[&str], &[u16]); 30] = [
     ("list", &["all", "fewer", "no rows", "finished"], &[34, 9]),
     ("list marked", &["all", "fewer", "no rows", "finished"], &[34, 9]),
     ("rows", &["all", "fewer", "no rows", "finished"], &[34, 9]),
+    ("upto begin", &["accepted"], &[31]),
+    ("upto step", &["diagram", "end", "end without room"], &[34, 9]),
+    // a step of a run that is right but for its visits
+    ("wrong visits", &[], &[34]),
     ("open", &["accepted"], &[31, 51]),
     ("claim", &["accepted"], &[50, 52, 53, 54, 55, 56, 57]),
     ("take", &["accepted"], &[50, 52, 58, 59, 9]),

@@ -13,19 +13,40 @@ pub(crate) fn answered(number: u16) -> Result<(), Refusal> {
     }
 }
 
+/// The numbers that a call gives.
+#[inline]
+pub(crate) fn numbers<const N: usize>(call: impl FnOnce(&mut [u64; N]) -> u16) -> Result<[u64; N], Refusal> {
+    let mut values = [UNWRITTEN; N];
+    let answer = answered(call(&mut values));
+    left(answer, values == [UNWRITTEN; N])?;
+    Ok(values)
+}
+
 /// The one number that a call gives.
 #[inline]
 pub(crate) fn given(call: impl FnOnce(&mut u64) -> u16) -> Result<u64, Refusal> {
-    let mut value = UNWRITTEN;
-    let answer = answered(call(&mut value));
-    left(answer, value == UNWRITTEN)?;
-    Ok(value)
+    numbers(|[value]| call(value)).map(|[value]| value)
 }
 
 /// The length or size that a call gives.
 #[inline]
 pub(crate) fn length(call: impl FnOnce(&mut u64) -> u16) -> Result<usize, Refusal> {
-    given(call).map(|value| usize::try_from(value).expect("a length of a list"))
+    given(call).map(places)
+}
+
+/// A length or size, by its number.
+#[inline]
+pub(crate) fn places(value: u64) -> usize {
+    usize::try_from(value).expect("a length of a list")
+}
+
+/// The run that a beginning writes over another; a refused one leaves it.
+#[inline]
+pub(crate) fn begun<R: Clone + PartialEq>(before: R, begin: impl FnOnce(&mut R) -> u16) -> Result<R, Refusal> {
+    let mut run = before.clone();
+    let answer = answered(begin(&mut run));
+    left(answer, run == before)?;
+    Ok(run)
 }
 
 /// The yes or no that a call gives.

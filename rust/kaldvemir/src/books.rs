@@ -1,5 +1,5 @@
 //! The share book: one list divided among sessions.
-use crate::answers::{answered, given, left, truth, UNWRITTEN};
+use crate::answers::{answered, given, numbers, places, truth};
 use crate::raw;
 use crate::Refusal;
 
@@ -67,11 +67,8 @@ impl Book {
     /// n + 1 places.
     #[inline]
     pub fn take(&mut self, tick: u64, ticket: u64, s0: &mut [u16], s1: &mut [u16], word: &mut [u16]) -> Result<Taken, Refusal> {
-        let mut values = [UNWRITTEN; 3];
-        let answer = answered(raw::take(self, tick, ticket, s0, s1, word, &mut values));
-        left(answer, values == [UNWRITTEN; 3])?;
-        let [share, position, length] = values;
-        Ok(Taken { share, position, length: usize::try_from(length).expect("a length of a list") })
+        let [share, position, length] = numbers(|values| raw::take(self, tick, ticket, s0, s1, word, values))?;
+        Ok(Taken { share, position, length: places(length) })
     }
 
     /// Commit the next position of the ticket's share. Refuses 50; 52; 58; 59; 60.
@@ -96,9 +93,7 @@ impl Book {
     /// Report: how many positions have been committed, and whether every share is finished. Refuses 50.
     #[inline]
     pub fn report(&self) -> Result<Report, Refusal> {
-        let (mut committed, mut complete) = (UNWRITTEN, UNWRITTEN);
-        let answer = answered(raw::report(self, &mut committed, &mut complete));
-        left(answer, (committed, complete) == (UNWRITTEN, UNWRITTEN))?;
+        let [committed, complete] = numbers(|[committed, complete]| raw::report(self, committed, complete))?;
         Ok(Report { committed, complete: truth(complete) })
     }
 }

@@ -17,17 +17,21 @@
 
 mod answers;
 mod books;
+mod diagrams;
 mod given;
 mod listed;
 #[allow(unsafe_code)]
 mod raw;
 mod refusals;
 mod runs;
+mod upto;
 mod words;
 
 pub use books::{Book, Report, Taken};
+pub use diagrams::{Diagrams, Listed, UptoListed};
 pub use given::{all_reached, check, compare_rooted, compare_unrooted, invariants, kept, relabel, symmetries, Invariants};
 pub use listed::{count, diagram_at, plain_walk, position};
 pub use refusals::{Refusal, Side, Sided};
 pub use runs::{row_bytes, Rows, Run};
+pub use upto::{Stepped, UptoRun};
 pub use words::{lesser, letters, read_word};

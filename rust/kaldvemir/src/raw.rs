@@ -2,7 +2,8 @@
 //!
 //! Every call here is sound for one reason: a slice or reference of Rust is not null and aligned, also an empty one, what is lent by `&mut`
 //! overlaps nothing else that is lent, the library writes within the lengths it is told, and it keeps nothing after the return.
-use crate::{Book, Invariants, Run};
+use crate::{Book, Invariants, Run, UptoRun};
+use std::mem::{offset_of, size_of};
 
 extern "C" {
     fn kaldvemir_check(s0: *const u16, s0_len: usize, s1: *const u16, s1_len: usize, root: u64) -> u16;
@@ -52,6 +53,11 @@ extern "C" {
     ) -> u16;
     fn kaldvemir_rows(
         run: *mut Run, rows: u64, bytes: *mut u8, bytes_len: usize, given: *mut u64, written: *mut u64, kept: *mut u64,
+    ) -> u16;
+    fn kaldvemir_upto_begin(bound: u64, run: *mut Run, visits: *mut u64) -> u16;
+    fn kaldvemir_upto_step(
+        run: *mut Run, visits: *mut u64, s0: *mut u16, s0_len: usize, s1: *mut u16, s1_len: usize, word: *mut u16, word_len: usize,
+        size: *mut u64, length: *mut u64,
     ) -> u16;
     fn kaldvemir_open(book: *mut Book, size: u64, shares: u64) -> u16;
     fn kaldvemir_claim(book: *mut Book, tick: u64, share: u64, length: u64, ticket: *mut u64) -> u16;
@@ -209,6 +215,31 @@ pub(crate) fn list_marked(
 #[inline]
 pub(crate) fn rows(run: &mut Run, rows: u64, bytes: &mut [u8], [given, written, kept]: &mut [u64; 3]) -> u16 {
     unsafe { kaldvemir_rows(run, rows, bytes.as_mut_ptr(), bytes.len(), given, written, kept) }
+}
+
+/// The boundary's run, the 54 numbers of 16 bits that an [`UptoRun`] begins with, and its visits, which lie behind them.
+#[inline]
+fn run_and_visits(run: &mut UptoRun) -> (*mut Run, *mut u64) {
+    const { assert!(offset_of!(UptoRun, items) == offset_of!(Run, items) && size_of::<Run>() <= offset_of!(UptoRun, visits)) };
+    let run: *mut UptoRun = run;
+    (run.cast(), unsafe { &raw mut (*run).visits })
+}
+
+#[inline]
+pub(crate) fn upto_begin(bound: u64, run: &mut UptoRun) -> u16 {
+    let (run, visits) = run_and_visits(run);
+    unsafe { kaldvemir_upto_begin(bound, run, visits) }
+}
+
+/// The two values are size and length.
+#[inline]
+pub(crate) fn upto_step(run: &mut UptoRun, s0: &mut [u16], s1: &mut [u16], word: &mut [u16], [size, length]: &mut [u64; 2]) -> u16 {
+    let (run, visits) = run_and_visits(run);
+    unsafe {
+        kaldvemir_upto_step(
+            run, visits, s0.as_mut_ptr(), s0.len(), s1.as_mut_ptr(), s1.len(), word.as_mut_ptr(), word.len(), size, length,
+        )
+    }
 }
 
 #[inline]

@@ -36,11 +36,11 @@ pub enum Refusal {
     EdgesPending = 25,
     /// 26: an item after the stack has emptied.
     ItemAfterEnd = 26,
-    /// 31: the size is outside 1..50.
+    /// 31: the size, or the bound of sizes, is outside 1..50.
     ListedSizeOutside = 31,
     /// 32: the position is 0 or above the count.
     PositionOutside = 32,
-    /// 34: the run is neither fresh, nor at a diagram of its size, nor finished.
+    /// 34: the run is neither fresh, nor at a diagram of its size (of a size up to its bound), nor finished, or its branch visits are not its own.
     RunInvalid = 34,
     /// 35: the size is outside 1..9.
     WalkSizeOutside = 35,
@@ -87,7 +87,7 @@ const REFUSALS: [(Refusal, &str); 30] = [
     (LabelOutside, "a label above 1,024"),
     (EdgesPending, "edges are pending at the word's end"),
     (ItemAfterEnd, "an item after the stack has emptied"),
-    (ListedSizeOutside, "the size is outside 1..50"),
+    (ListedSizeOutside, "the size or bound is outside 1..50"),
     (PositionOutside, "the position is 0 or above the count"),
     (RunInvalid, "the run is neither fresh, nor at a diagram, nor finished"),
     (WalkSizeOutside, "the size is outside 1..9"),

@@ -1,5 +1,5 @@
 //! The run: the diagrams of a size one after another, by single steps, in blocks, or as the rows of the census.
-use crate::answers::{answered, given, left, length, UNWRITTEN};
+use crate::answers::{begun, given, length, numbers, places, UNWRITTEN};
 use crate::raw;
 use crate::Refusal;
 
@@ -37,14 +37,14 @@ impl Run {
     /// Beginning: a fresh run. Refuses 31.
     #[inline]
     pub fn begin(size: u64) -> Result<Run, Refusal> {
-        begun(|run| raw::begin(size, run))
+        begun(Run::unwritten(), |run| raw::begin(size, run))
     }
 
     /// Beginning at a position: the run that has given so many diagrams, without walking to it; its next step gives the diagram at the position
     /// after. At position 0 it is fresh. Refuses 31; 32 where the position is above the count.
     #[inline]
     pub fn begin_at(size: u64, position: u64) -> Result<Run, Refusal> {
-        begun(|run| raw::begin_at(size, position, run))
+        begun(Run::unwritten(), |run| raw::begin_at(size, position, run))
     }
 
     /// Step: writes the next diagram with its word and returns the word's length, or `None` at the end. Refuses 34; a finished run then answers
@@ -87,21 +87,13 @@ impl Run {
     /// ```
     #[inline]
     pub fn rows(&mut self, rows: u64, bytes: &mut [u8]) -> Result<Rows, Refusal> {
-        let mut values = [UNWRITTEN; 3];
-        let answer = answered(raw::rows(self, rows, bytes, &mut values));
-        left(answer, values == [UNWRITTEN; 3])?;
-        let [rows, bytes, kept] = values;
-        Ok(Rows { rows, bytes: usize::try_from(bytes).expect("a length of a list"), kept })
+        let [rows, bytes, kept] = numbers(|values| raw::rows(self, rows, bytes, values))?;
+        Ok(Rows { rows, bytes: places(bytes), kept })
     }
-}
 
-/// The run that a beginning writes; a refused one leaves it.
-#[inline]
-fn begun(begin: impl FnOnce(&mut Run) -> u16) -> Result<Run, Refusal> {
-    let unwritten = UNWRITTEN as u16;
-    let before = Run { size: unwritten, stage: unwritten, length: unwritten, items: [unwritten; 51] };
-    let mut run = before.clone();
-    let answer = answered(begin(&mut run));
-    left(answer, run == before)?;
-    Ok(run)
+    /// What a beginning writes over.
+    fn unwritten() -> Run {
+        let unwritten = UNWRITTEN as u16;
+        Run { size: unwritten, stage: unwritten, length: unwritten, items: [unwritten; 51] }
+    }
 }

@@ -1,5 +1,5 @@
 //! The share book, each condition of 01 as a test of its own.
-use crate::listing::{count, word_at, written};
+use crate::listing::{count, written, Words};
 use crate::{short, Rooms, Written};
 
 /// A share book; entry j - 1 of each list is share j's.
@@ -202,7 +202,7 @@ impl Book {
             return Err(9);
         }
         self.latest = tick;
-        Ok(Taken { share: j as u64 + 1, position: self.next[j], written: written(word_at(n, self.next[j])) })
+        Ok(Taken { share: j as u64 + 1, position: self.next[j], written: written(Words::of_size(n).at(self.next[j])) })
     }
 
     /// Commit: 50; 52; 58; 59; 60.

@@ -13,6 +13,7 @@ mod labelling;
 mod listing;
 mod rows;
 mod runs;
+mod upto;
 mod words;
 
 pub use books::{Book, Report, Taken};
@@ -22,6 +23,7 @@ pub use labelling::{kept, relabel, symmetries};
 pub use listing::{all_words, count, diagram_at, plain_walk, position};
 pub use rows::Rows;
 pub use runs::{Block, BlockRooms, Run};
+pub use upto::{list_upto, UptoRun};
 pub use words::{letters, read_word, second_is_less};
 
 /// A diagram as it is written, with root 1, and its word.

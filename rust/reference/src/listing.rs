@@ -1,4 +1,4 @@
-//! The words of a size: all of them by plain recursion, and counts and positions by a table of the ways to end.
+//! The words of a size, or of all sizes up to a bound: all of a size by plain recursion, and counts and positions by a table of the ways to end.
 use crate::diagrams::check;
 use crate::labelling::characteristic;
 use crate::words::spelled;
@@ -7,13 +7,13 @@ use std::sync::OnceLock;
 
 /// A word in the making: how many edges are pending, and how many labels are free.
 #[derive(Clone, Copy)]
-struct State {
-    height: usize,
-    free: usize,
+pub(crate) struct State {
+    pub(crate) height: usize,
+    pub(crate) free: usize,
 }
 
 /// The first items that a size allows, in order, each with the state after it.
-fn beginnings(n: usize) -> Vec<(u16, State)> {
+pub(crate) fn beginnings(n: usize) -> Vec<(u16, State)> {
     let mut choices = vec![(0, State { height: 1, free: n - 1 })];
     if n >= 3 {
         choices.push((1, State { height: 3, free: n - 3 }));
@@ -21,18 +21,24 @@ fn beginnings(n: usize) -> Vec<(u16, State)> {
     choices
 }
 
-/// The items that a state with an edge pending allows, in order, each with the state after it.
-fn events(State { height, free }: State) -> Vec<(u16, State)> {
+/// The kinds of items that a state with an edge pending allows, in order: the least item of the kind, how many there are, and the state after each.
+pub(crate) fn kinds(State { height, free }: State) -> impl Iterator<Item = (u16, usize, State)> {
     let left = height - 1;
-    let mut choices = vec![(0, State { height: left, free })];
-    if free >= 3 {
-        choices.push((1, State { height: left + 2, free: free - 3 }));
+    let kinds = [
+        Some((0, 1, State { height: left, free })),
+        (free >= 3).then(|| (1, 1, State { height: left + 2, free: free - 3 })),
+        (free >= 1).then(|| (2, 1, State { height: left, free: free - 1 })),
+        (left >= 1).then(|| (3, left, State { height: left - 1, free })),
+    ];
+    kinds.into_iter().flatten()
+}
+
+/// The items that a state allows, in order, each with the state after it; none where no edge is pending.
+pub(crate) fn events(state: State) -> Vec<(u16, State)> {
+    if state.height == 0 {
+        return vec![];
     }
-    if free >= 1 {
-        choices.push((2, State { height: left, free: free - 1 }));
-    }
-    choices.extend((0..left).map(|d| (3 + d as u16, State { height: left - 1, free })));
-    choices
+    kinds(state).flat_map(|(least, times, after)| (0..times).map(move |more| (least + more as u16, after))).collect()
 }
 
 /// All words of size n in dictionary order: every choice at every item, and the words that end with labels free dropped at their end.
@@ -85,51 +91,73 @@ fn ways(State { height, free }: State) -> u128 {
     table[free][height]
 }
 
-/// The number of words of size n, 1 to 50.
-fn number(n: usize) -> u64 {
-    let sum: u128 = beginnings(n).iter().map(|(_, state)| ways(*state)).sum();
-    u64::try_from(sum).expect("counts to size 50 fit 64 bits")
+/// In how many ways a state can be ended, whatever labels are left free.
+fn ways_upto(State { height, free }: State) -> u128 {
+    (0..=free).map(|used| ways(State { height, free: used })).sum()
+}
+
+/// A list of words in dictionary order: those of a size, or those of all sizes up to a bound.
+#[derive(Clone, Copy)]
+pub(crate) struct Words {
+    /// The size or the bound, 1 to 50.
+    labels: usize,
+    /// In how many ways a state can be ended.
+    ways: fn(State) -> u128,
+}
+
+impl Words {
+    pub(crate) fn of_size(n: usize) -> Words {
+        Words { labels: n, ways }
+    }
+
+    pub(crate) fn upto(n: usize) -> Words {
+        Words { labels: n, ways: ways_upto }
+    }
+
+    /// How many there are.
+    pub(crate) fn count(self) -> u64 {
+        let sum: u128 = beginnings(self.labels).iter().map(|(_, state)| (self.ways)(*state)).sum();
+        u64::try_from(sum).expect("counts to size 50 fit 64 bits")
+    }
+
+    /// The word at a position, 1 to the count.
+    pub(crate) fn at(self, position: u64) -> Vec<u16> {
+        let mut before = u128::from(position) - 1;
+        let mut word = vec![];
+        let mut choices = beginnings(self.labels);
+        while !choices.is_empty() {
+            let mut place = 0;
+            while before >= (self.ways)(choices[place].1) {
+                before -= (self.ways)(choices[place].1);
+                place += 1;
+            }
+            let (item, state) = choices[place];
+            word.push(item);
+            choices = events(state);
+        }
+        word
+    }
+
+    /// The position of one of its words: the words with a lesser item at some place and the same items before it, and 1.
+    pub(crate) fn position(self, word: &[u16]) -> u64 {
+        let mut sum = 1;
+        let mut choices = beginnings(self.labels);
+        for item in word {
+            sum += choices.iter().filter(|(lesser, _)| lesser < item).map(|(_, state)| (self.ways)(*state)).sum::<u128>();
+            let (_, state) = *choices.iter().find(|(same, _)| same == item).expect("a word of this list");
+            choices = events(state);
+        }
+        u64::try_from(sum).expect("positions to size 50 fit 64 bits")
+    }
 }
 
 /// Count: 31.
 pub fn count(size: u64) -> Result<u64, u16> {
     if (1..=50).contains(&size) {
-        Ok(number(size as usize))
+        Ok(Words::of_size(size as usize).count())
     } else {
         Err(31)
     }
-}
-
-/// The word at a position, 1 to the count, of size n.
-pub(crate) fn word_at(n: usize, position: u64) -> Vec<u16> {
-    let mut before = u128::from(position) - 1;
-    let mut word = vec![];
-    let mut choices = beginnings(n);
-    loop {
-        let mut place = 0;
-        while before >= ways(choices[place].1) {
-            before -= ways(choices[place].1);
-            place += 1;
-        }
-        let (item, state) = choices[place];
-        word.push(item);
-        if state.height == 0 {
-            return word;
-        }
-        choices = events(state);
-    }
-}
-
-/// The position of a word of size n: the words with a lesser item at some place and the same items before it, and 1.
-pub(crate) fn position_of(n: usize, word: &[u16]) -> u64 {
-    let mut sum = 1;
-    let mut choices = beginnings(n);
-    for item in word {
-        sum += choices.iter().filter(|(lesser, _)| lesser < item).map(|(_, state)| ways(*state)).sum::<u128>();
-        let (_, state) = *choices.iter().find(|(same, _)| same == item).expect("a word of this size");
-        choices = if state.height == 0 { vec![] } else { events(state) };
-    }
-    u64::try_from(sum).expect("positions to size 50 fit 64 bits")
 }
 
 /// A word of the listing with its diagram.
@@ -147,14 +175,14 @@ pub fn diagram_at(size: u64, position: u64, rooms: Rooms) -> Result<Written, u16
     if short(size as usize, rooms) {
         return Err(9);
     }
-    Ok(written(word_at(size as usize, position)))
+    Ok(written(Words::of_size(size as usize).at(position)))
 }
 
 /// Position of a diagram: 1 to 8; 31.
 pub fn position(s0: &[u16], s1: &[u16], root: u64) -> Result<u64, u16> {
     check(s0, s1, root)?;
     count(s0.len() as u64)?;
-    Ok(position_of(s0.len(), &characteristic(s0, s1, root).word))
+    Ok(Words::of_size(s0.len()).position(&characteristic(s0, s1, root).word))
 }
 
 /// Plain walk: 35; 9.

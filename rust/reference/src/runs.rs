@@ -1,6 +1,6 @@
 //! The run, as a place in the order: its word's position, and 1, is the next.
 use crate::labelling::kept;
-use crate::listing::{count, position_of, word_at, written};
+use crate::listing::{count, written, Words};
 use crate::rows::Rows;
 use crate::words::spelled;
 use crate::{short, Rooms, Written};
@@ -37,33 +37,45 @@ impl Run {
     /// The run of a size, 1 to 50, at the diagram of a position, 1 to the count.
     pub fn at(size: u16, position: u64) -> Run {
         let mut run = Run { size, stage: 0, length: 0, items: [0; 51] };
-        run.go_to(&word_at(usize::from(size), position));
+        run.go_to(&Words::of_size(size.into()).at(position));
         run
     }
 
-    fn go_to(&mut self, word: &[u16]) {
+    /// Goes to a word.
+    pub(crate) fn go_to(&mut self, word: &[u16]) {
         self.stage = 1;
         self.length = word.len() as u16;
         self.items = [0; 51];
         self.items[..word.len()].copy_from_slice(word);
     }
 
-    fn has_no_word(&self) -> bool {
+    /// Goes past the last word.
+    pub(crate) fn finish(&mut self) {
+        *self = Run { size: self.size, stage: 2, length: 0, items: [0; 51] };
+    }
+
+    /// The word that it is at.
+    pub(crate) fn word(&self) -> &[u16] {
+        &self.items[..usize::from(self.length)]
+    }
+
+    pub(crate) fn has_no_word(&self) -> bool {
         self.length == 0 && self.items == [0; 51]
     }
 
-    fn is_at_a_diagram(&self) -> bool {
+    /// The size of the diagram that it is at, if it is at one.
+    pub(crate) fn diagram_size(&self) -> Option<usize> {
         let length = usize::from(self.length);
-        length <= 51
-            && self.items[length..].iter().all(|item| *item == 0)
-            && spelled(&self.items[..length]).is_ok_and(|(s0, _)| s0.len() == usize::from(self.size))
+        let zeros_follow = length <= 51 && self.items[length..].iter().all(|item| *item == 0);
+        let (s0, _) = if zeros_follow { spelled(self.word()).ok()? } else { return None };
+        Some(s0.len())
     }
 
     fn is_valid(&self) -> bool {
         (1..=50).contains(&self.size)
             && match self.stage {
                 0 | 2 => self.has_no_word(),
-                1 => self.is_at_a_diagram(),
+                1 => self.diagram_size() == Some(self.size.into()),
                 _ => false,
             }
     }
@@ -72,7 +84,7 @@ impl Run {
     fn position(&self) -> u64 {
         match self.stage {
             0 => 0,
-            _ => position_of(self.size.into(), &self.items[..usize::from(self.length)]),
+            _ => Words::of_size(self.size.into()).position(self.word()),
         }
     }
 
@@ -90,10 +102,10 @@ impl Run {
         }
         let position = self.position() + 1;
         if position > count(self.size.into())? {
-            *self = Run { size: self.size, stage: 2, length: 0, items: [0; 51] };
+            self.finish();
             return Ok(None);
         }
-        let next = written(word_at(n, position));
+        let next = written(Words::of_size(n).at(position));
         self.go_to(&next.word);
         Ok(Some(next))
     }
@@ -150,7 +162,7 @@ impl Run {
         let before = self.position();
         let last = before.saturating_add(rows).min(count(self.size.into())?);
         for position in before + 1..=last {
-            let next = written(word_at(n, position));
+            let next = written(Words::of_size(n).at(position));
             given.push(position, &next)?;
             self.go_to(&next.word);
         }

@@ -16,7 +16,7 @@ same-length : tie.Need-same-length
 same-length c = search needs
 
 returns-2 : tie.Need-returns-2
-returns-2 c = rw (c .before .before .before .before .before .before .before .before .before .before .if1 .left) (_, c .before .before .before .before .before .before .on-line .ensures, c .before .before .put-byte .ensures)
+returns-2 c = rw (c .before .before .before .before .before .before .before .before .before .before .before .before .if1 .left) (_, c .before .before .before .before .before .before .on-line .ensures, c .before .before .put-byte .ensures)
 
 pub answer-spec : {M : Type 1} → statement M
 answer-spec = tie.close (tie.spec returns on-line-requires put-byte-requires same-length returns-2)

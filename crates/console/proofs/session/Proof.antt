@@ -8,10 +8,10 @@ use Rattle.console.proofs.session.Statement.{statement}
 use Rattle.console.proofs.session.Tie as tie
 
 abbrev Inv-loop : tie.InvT-loop
-Inv-loop input₀ run₀ book₀ out₀ lines₀ place₀ turns₀ input run book out lines place turns = Within lines (length input) × (length input ≡ length input₀) × (length out ≡ length out₀)
+Inv-loop input₀ run₀ upto₀ visits₀ book₀ out₀ lines₀ place₀ turns₀ input run upto visits book out lines place turns = Within lines (length input) × (length input ≡ length input₀) × (length out ≡ length out₀)
 
 abbrev μ-loop : tie.MeasureT-loop
-μ-loop input₀ run₀ book₀ out₀ lines₀ place₀ turns₀ input run book out lines place turns = turns
+μ-loop input₀ run₀ upto₀ visits₀ book₀ out₀ lines₀ place₀ turns₀ input run upto visits book out lines place turns = turns
 
 no-lines-requires : tie.Need-no-lines-requires Inv-loop μ-loop
 no-lines-requires c κs = search needs

@@ -1,9 +1,9 @@
 //! Listed diagrams: positions, keep marks and runs.
 use super::{given, row};
 use crate::random::{Diagram, Random};
-use kaldvemir::Run;
+use kaldvemir::{Run, Stepped, UptoRun};
 use crate::table::count_of;
-use crate::timing::Row;
+use crate::timing::{Row, Work};
 use crate::{library, same, tuned};
 use std::hint::black_box;
 use std::rc::Rc;
@@ -12,6 +12,7 @@ type DiagramAt = fn(u64, u64, &mut [u16], &mut [u16], &mut [u16]) -> Result<usiz
 type Position = fn(&[u16], &[u16], u64) -> Result<u64, u16>;
 type Kept = fn(&[u16], &[u16], u64) -> Result<bool, u16>;
 type Step = fn(&mut Run, &mut [u16], &mut [u16], &mut [u16]) -> Result<usize, u16>;
+type UptoStep = fn(&mut UptoRun, &mut [u16], &mut [u16], &mut [u16]) -> Result<Option<Stepped>, u16>;
 
 pub fn diagram_at() -> Row {
     let mut random = Random(3);
@@ -93,4 +94,61 @@ pub fn steps() -> Row {
         }
     };
     row("run step 25", 200_000, work(library::step), work(same::run::step), work(tuned::run::step))
+}
+
+/// A run through all sizes up to a bound, at a word of one of them.
+pub fn upto_run_at(bound: usize, size: usize, position: u64) -> UptoRun {
+    let Run { stage, length, items, .. } = run_at(size, position);
+    UptoRun { bound: bound as u16, stage, length, items, visits: same::upto::visits_of(&items[..length as usize], bound) }
+}
+
+/// Where the steps through all sizes up to 25 begin: at the diagram of size 25 where the steps of that size do.
+fn upto_start() -> UptoRun {
+    upto_run_at(25, 25, 2_000_000)
+}
+
+/// Steps of a run through all sizes up to 25, and a sum over what each gives and writes.
+fn upto_work(f: UptoStep, sum: fn(Stepped, &[u16]) -> u64) -> Work {
+    let (mut s0, mut s1, mut word) = ([0; 25], [0; 25], [0; 26]);
+    Box::new(move || {
+        let mut run = upto_start();
+        (0..200_000).fold(0, |total: u64, _| {
+            let stepped = f(&mut run, &mut s0, &mut s1, &mut word).unwrap().unwrap();
+            total.wrapping_add(sum(stepped, black_box(&s1)))
+        })
+    })
+}
+
+pub fn upto_steps() -> Row {
+    let sum = |stepped: Stepped, s1: &[u16]| stepped.length as u64 + stepped.visits + s1[stepped.size / 2] as u64;
+    let sides = vec![upto_work(library::upto_step, sum), upto_work(same::upto::step, sum)];
+    Row { name: "upto step 25", calls: 200_000, bar: Some(1.5), sides }
+}
+
+/// The library's step through all sizes beside its own step of one size, from the same diagram on. The two give different diagrams, so the sums are
+/// those of the steps.
+pub fn upto_steps_to_steps() -> Row {
+    let start = run_at(25, 2_000_000);
+    let (mut s0, mut s1, mut word) = ([0; 25], [0; 25], [0; 26]);
+    let plain: Work = Box::new(move || {
+        let mut run = start.clone();
+        (0..200_000).map(|_| (library::step(&mut run, &mut s0, &mut s1, &mut word).unwrap() != 0 && black_box(&s1)[0] != 0) as u64).sum()
+    });
+    let sides = vec![upto_work(library::upto_step, |_, s1| (s1[0] != 0) as u64), plain];
+    Row { name: "upto step 25 to run step 25", calls: 200_000, bar: Some(2.5), sides }
+}
+
+/// What the test of the visits costs, which condition 34 asks for and the step of one size has not: counting them, on its own, for the words that the
+/// steps come to, beside those steps, both in plain Rust: about a seventh of a step. For information; neither side is the library's.
+pub fn visit_tests() -> Row {
+    let (mut run, mut s0, mut s1, mut word) = (upto_start(), [0; 25], [0; 25], [0; 26]);
+    let words: Vec<Vec<u16>> = (0..200_000)
+        .map(|_| {
+            let stepped = same::upto::step(&mut run, &mut s0, &mut s1, &mut word).unwrap().unwrap();
+            word[..stepped.length].to_vec()
+        })
+        .collect();
+    let counts: Work = Box::new(move || words.iter().fold(0, |sum: u64, word| sum.wrapping_add(same::upto::visits_of(black_box(word), 25))));
+    let sides = vec![counts, upto_work(same::upto::step, |stepped, _| stepped.visits)];
+    Row { name: "visit test 25 to upto step 25", calls: 200_000, bar: None, sides }
 }

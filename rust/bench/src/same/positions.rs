@@ -2,7 +2,7 @@
 use super::check::check;
 use super::labelling::Labelling;
 use super::writing::write_diagram;
-use crate::table::{count_of, listed, MAX_LISTED, WAYS};
+use crate::table::{count_of, listed, Table, MAX_LISTED, WAYS};
 
 pub fn diagram_at(size: u64, position: u64, s0: &mut [u16], s1: &mut [u16], word: &mut [u16]) -> Result<usize, u16> {
     if !listed(size) {
@@ -20,15 +20,15 @@ pub fn diagram_at(size: u64, position: u64, s0: &mut [u16], s1: &mut [u16], word
     Ok(length)
 }
 
-/// How many ways to go on begin with F and with B, at h labels below the one that is popped.
+/// What a table has for going on with F and with B, at h labels below the one that is popped.
 #[inline]
-fn forks(h: usize, f: usize) -> u64 {
-    if f >= 3 { WAYS[h + 2][f - 3] } else { 0 }
+fn forks(table: &Table, h: usize, f: usize) -> u64 {
+    if f >= 3 { table[h + 2][f - 3] } else { 0 }
 }
 
 #[inline]
-fn singles(h: usize, f: usize) -> u64 {
-    if f >= 1 { WAYS[h][f - 1] } else { 0 }
+fn singles(table: &Table, h: usize, f: usize) -> u64 {
+    if f >= 1 { table[h][f - 1] } else { 0 }
 }
 
 /// Writes the word at a place, counted from 0, and returns its length.
@@ -59,12 +59,12 @@ fn choose(h: usize, f: usize, mut place: u64) -> (u16, usize, usize, u64) {
         return (0, h, f, place);
     }
     place -= welds;
-    let forks = forks(h, f);
+    let forks = forks(&WAYS, h, f);
     if place < forks {
         return (1, h + 2, f - 3, place);
     }
     place -= forks;
-    let singles = singles(h, f);
+    let singles = singles(&WAYS, h, f);
     if place < singles {
         return (2, h, f - 1, place);
     }
@@ -84,30 +84,36 @@ pub fn position(s0: &[u16], s1: &[u16], root: u64) -> Result<u64, u16> {
     Ok(rank(n, &word[..length]))
 }
 
-/// The position of a word: for each item, how many ways to go on begin with an event before it.
+/// The position of a word: how many ways to go on come before it, and 1.
 fn rank(n: usize, word: &[u16]) -> u64 {
-    let (mut h, mut f, mut place) = match word[0] {
-        0 => (1, n - 1, 1),
-        _ => (3, n - 3, 1 + WAYS[1][n - 1]),
+    1 + before(&WAYS, n, word)
+}
+
+/// For each item, what a table has for going on with an event before it.
+#[inline(always)]
+pub fn before(table: &Table, n: usize, word: &[u16]) -> u64 {
+    let (mut h, mut f, mut sum) = match word[0] {
+        0 => (1, n - 1, 0),
+        _ => (3, n - 3, table[1][n - 1]),
     };
     for &item in &word[1..] {
         h -= 1;
         match item {
             0 => {}
             1 => {
-                place += WAYS[h][f];
+                sum += table[h][f];
                 h += 2;
                 f -= 3;
             }
             2 => {
-                place += WAYS[h][f] + forks(h, f);
+                sum += table[h][f] + forks(table, h, f);
                 f -= 1;
             }
             _ => {
-                place += WAYS[h][f] + forks(h, f) + singles(h, f) + (item as u64 - 3) * WAYS[h - 1][f];
+                sum += table[h][f] + forks(table, h, f) + singles(table, h, f) + (item as u64 - 3) * table[h - 1][f];
                 h -= 1;
             }
         }
     }
-    place
+    sum
 }

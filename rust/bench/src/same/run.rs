@@ -40,7 +40,7 @@ fn valid(run: &Run) -> bool {
 
 /// The height and the labels free after the first item, U or T.
 #[inline]
-fn start(n: usize, item: u16) -> Option<(usize, usize)> {
+pub fn start(n: usize, item: u16) -> Option<(usize, usize)> {
     match item {
         0 => Some((1, n - 1)),
         1 if n >= 3 => Some((3, n - 3)),
@@ -50,7 +50,7 @@ fn start(n: usize, item: u16) -> Option<(usize, usize)> {
 
 /// The same after a later item, where it can be read.
 #[inline]
-fn after(h: usize, f: usize, item: u16) -> Option<(usize, usize)> {
+pub fn after(h: usize, f: usize, item: u16) -> Option<(usize, usize)> {
     if h == 0 {
         return None;
     }
@@ -64,7 +64,7 @@ fn after(h: usize, f: usize, item: u16) -> Option<(usize, usize)> {
 }
 
 /// Whether the items empty the stack just as they use up the labels.
-fn is_word(word: &[u16], n: usize) -> bool {
+pub fn is_word(word: &[u16], n: usize) -> bool {
     let Some((&first, items)) = word.split_first() else {
         return false;
     };

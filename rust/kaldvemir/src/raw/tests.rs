@@ -135,6 +135,39 @@ fn refused_runs() {
 }
 
 #[test]
+fn refused_runs_through_all_sizes() {
+    let before = UptoRun { bound: MARK, stage: MARK, length: MARK, items: [MARK; 51], visits: WIDE };
+    let (mut run, mut lists, mut values) = (before.clone(), [[MARK; 60]; 3], [WIDE; 2]);
+    assert_eq!((upto_begin(0, &mut run), upto_begin(51, &mut run), upto_begin(1 << 32 | 3, &mut run)), (31, 31, 31));
+    let [s0, s1, word] = &mut lists;
+    assert_eq!((upto_step(&mut run, s0, s1, word, &mut values), run), (34, before));
+    // The second diagram of bound 4 has size 4; each list in turn is short by one.
+    let mut first = UptoRun::begin(4).unwrap();
+    assert_eq!(first.step(&mut [0; 1], &mut [0; 1], &mut [0; 2]).unwrap().unwrap().size, 1);
+    for rooms in [[3, 4, 5], [4, 3, 5], [4, 4, 4]] {
+        let mut run = first.clone();
+        assert_eq!((upto_step(&mut run, &mut s0[..rooms[0]], &mut s1[..rooms[1]], &mut word[..rooms[2]], &mut values), &run), (9, &first));
+    }
+    assert_eq!((lists, values), ([[MARK; 60]; 3], [WIDE; 2]));
+}
+
+/// Nothing but the 54 numbers and the visits is written, and both values at the end.
+#[test]
+fn the_end_of_all_sizes() {
+    let (mut run, mut lists, mut values) = (UptoRun::begin(1).unwrap(), [[MARK; 3]; 3], [WIDE; 2]);
+    let [s0, s1, word] = &mut lists;
+    assert_eq!((upto_step(&mut run, s0, s1, word, &mut values), values, run.visits), (0, [1, 2], 1));
+    let given = lists;
+    assert_eq!(given, [[1, MARK, MARK], [1, MARK, MARK], [0, 0, MARK]]);
+    for _ in 0..2 {
+        let [s0, s1, word] = &mut lists;
+        values = [WIDE; 2];
+        assert_eq!((upto_step(&mut run, s0, s1, word, &mut values), values), (0, [0, 0]));
+        assert_eq!((&run, lists), (&UptoRun { bound: 1, stage: 2, length: 0, items: [0; 51], visits: 1 }, given));
+    }
+}
+
+#[test]
 fn refused_book_calls() {
     let mut held = book();
     assert_eq!(held.claim(5, 1, 10), Ok(1));

@@ -29,7 +29,7 @@ same-length-2 : tie.Need-same-length-2
 same-length-2 c = search needs
 
 returns-2 : tie.Need-returns-2
-returns-2 c = inr (λ own. ⊎-elim (λ w. absurd (w .2 .left (own .1))) (λ w. omega (arith, w .left, own .0)) (c .before .before .before .before .before .before .before .if1 .came), c .before .before .by-table .ensures)
+returns-2 c = inr (λ own. ⊎-elim (λ w. absurd (w .2 .left (own .1))) (λ w. omega (arith, w .left, own .0)) (c .before .before .before .before .before .before .before .before .before .if1 .came), c .before .before .by-table .ensures)
 
 pub on-line-spec : {M : Type 1} → statement M
 on-line-spec =

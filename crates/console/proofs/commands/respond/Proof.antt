@@ -21,7 +21,7 @@ abbrev called : tie.After-bytes2 → tie.After-on-command
 called b = b .before .before .before .before .before
 
 abbrev rooms : tie.After-on-command → tie.After-room5
-rooms c = c .before .before .before .before .before .before .before .before
+rooms c = c .before .before .before .before .before .before .before .before .before .before
 
 room-requires : tie.Need-room-requires
 room-requires c κs = search needs
@@ -45,7 +45,7 @@ part-s0-start : tie.Need-part-s0-start
 part-s0-start c = zero≤
 
 part-s0-end : tie.Need-part-s0-end
-part-s0-end c = within 2048 _ (c .before .before .before .before .before .before .room .ensures)
+part-s0-end c = within 2048 _ (c .before .before .before .before .before .before .before .before .room .ensures)
 
 sub-on-command-2 : tie.Need-sub-on-command-2
 sub-on-command-2 c = zero≤
@@ -54,7 +54,7 @@ part-s1-start : tie.Need-part-s1-start
 part-s1-start c = zero≤
 
 part-s1-end : tie.Need-part-s1-end
-part-s1-end c = within 2048 _ (c .before .before .before .before .before .before .room2 .ensures)
+part-s1-end c = within 2048 _ (c .before .before .before .before .before .before .before .before .room2 .ensures)
 
 sub-on-command-3 : tie.Need-sub-on-command-3
 sub-on-command-3 c = zero≤
@@ -63,7 +63,7 @@ part-words-start : tie.Need-part-words-start
 part-words-start c = zero≤
 
 part-words-end : tie.Need-part-words-end
-part-words-end c = within 2048 _ (c .before .before .before .before .before .before .room3 .ensures)
+part-words-end c = within 2048 _ (c .before .before .before .before .before .before .before .before .room3 .ensures)
 
 sub-on-command-4 : tie.Need-sub-on-command-4
 sub-on-command-4 c = zero≤
@@ -72,7 +72,7 @@ part-lengths-start : tie.Need-part-lengths-start
 part-lengths-start c = zero≤
 
 part-lengths-end : tie.Need-part-lengths-end
-part-lengths-end c = within 2048 _ (c .before .before .before .before .before .before .room4 .ensures)
+part-lengths-end c = within 2048 _ (c .before .before .before .before .before .before .before .before .room4 .ensures)
 
 sub-on-command-5 : tie.Need-sub-on-command-5
 sub-on-command-5 c = zero≤
@@ -81,7 +81,7 @@ part-bytes-start : tie.Need-part-bytes-start
 part-bytes-start c = zero≤
 
 part-bytes-end : tie.Need-part-bytes-end
-part-bytes-end c = within 12288 _ (c .before .before .before .before .before .before .room5 .ensures)
+part-bytes-end c = within 12288 _ (c .before .before .before .before .before .before .before .before .room5 .ensures)
 
 on-command-requires : tie.Need-on-command-requires
 on-command-requires c κs = search needs
@@ -90,19 +90,19 @@ text-of-requires : tie.Need-text-of-requires
 text-of-requires c κs = search needs
 
 slice-aggregate-put-answer : tie.Need-slice-aggregate-put-answer
-slice-aggregate-put-answer c = let b = c .before .before .before in lent-back 2048 (rooms (called b) .before .before .before .before .room .result - 0) (called b .on-command .last .1 .1 .1 .1 .1 .0) (b .before .before .before .before .s02 .given)
+slice-aggregate-put-answer c = let b = c .before .before .before in lent-back 2048 (rooms (called b) .before .before .before .before .room .result - 0) (called b .on-command .last .1 .1 .1 .1 .1 .1 .1 .0) (b .before .before .before .before .s02 .given)
 
 slice-aggregate-put-answer-2 : tie.Need-slice-aggregate-put-answer-2
-slice-aggregate-put-answer-2 c = let b = c .before .before .before .before in lent-back 2048 (rooms (called b) .before .before .before .room2 .result - 0) (called b .on-command .last .1 .1 .1 .1 .1 .1 .0) (b .before .before .before .s12 .given)
+slice-aggregate-put-answer-2 c = let b = c .before .before .before .before in lent-back 2048 (rooms (called b) .before .before .before .room2 .result - 0) (called b .on-command .last .1 .1 .1 .1 .1 .1 .1 .1 .0) (b .before .before .before .s12 .given)
 
 slice-aggregate-put-answer-3 : tie.Need-slice-aggregate-put-answer-3
-slice-aggregate-put-answer-3 c = let b = c .before .before .before .before .before in lent-back 2048 (rooms (called b) .before .before .room3 .result - 0) (called b .on-command .last .1 .1 .1 .1 .1 .1 .1 .0) (b .before .before .words2 .given)
+slice-aggregate-put-answer-3 c = let b = c .before .before .before .before .before in lent-back 2048 (rooms (called b) .before .before .room3 .result - 0) (called b .on-command .last .1 .1 .1 .1 .1 .1 .1 .1 .1 .0) (b .before .before .words2 .given)
 
 slice-aggregate-put-answer-4 : tie.Need-slice-aggregate-put-answer-4
-slice-aggregate-put-answer-4 c = let b = c .before .before .before .before .before .before in lent-back 2048 (rooms (called b) .before .room4 .result - 0) (called b .on-command .last .1 .1 .1 .1 .1 .1 .1 .1 .0) (b .before .lengths2 .given)
+slice-aggregate-put-answer-4 c = let b = c .before .before .before .before .before .before in lent-back 2048 (rooms (called b) .before .room4 .result - 0) (called b .on-command .last .1 .1 .1 .1 .1 .1 .1 .1 .1 .1 .0) (b .before .lengths2 .given)
 
 slice-aggregate-put-answer-5 : tie.Need-slice-aggregate-put-answer-5
-slice-aggregate-put-answer-5 c = let b = c .before .before .before .before .before .before .before in lent-back 12288 (rooms (called b) .room5 .result - 0) (called b .on-command .last .1 .1 .1 .1 .1 .1 .1 .1 .1 .0) (b .bytes2 .given)
+slice-aggregate-put-answer-5 c = let b = c .before .before .before .before .before .before .before in lent-back 12288 (rooms (called b) .room5 .result - 0) (called b .on-command .last .1 .1 .1 .1 .1 .1 .1 .1 .1 .1 .1 .0) (b .bytes2 .given)
 
 put-answer-requires : tie.Need-put-answer-requires
 put-answer-requires c κs = search needs

@@ -1,0 +1,4 @@
+pub mod Order
+pub mod Upto
+pub mod Visits
+pub mod Examples

@@ -1,0 +1,4 @@
+pub mod Cases
+pub mod Padding
+pub mod Raises
+pub mod Branches
