@@ -1,13 +1,13 @@
-/* The diagrams of the sizes 1 to 3 come in a single list. Then two sessions divide the 22 rooted diagrams of size 6, of which the first rows are
- * printed. One of them falls asleep, its ticket lapses, the other one takes its share over, and what the sleeper then says too late is refused.
- * In the end the report says complete, with 22 committed. */
+/* The diagrams of the sizes 1 to 3 come in a single list, and a sheet of words gets its positions in one call. Then two sessions divide the 22 rooted
+ * diagrams of size 6, of which the first rows are printed. One of them falls asleep, its ticket lapses, the other one takes its share over, and what
+ * the sleeper then says too late is refused. In the end the report says complete, with 22 committed. */
 #include "kaldvemir.h"
 
 #include <inttypes.h>
 #include <stdio.h>
 #include <stdlib.h>
 
-enum { BOUND = 3, UPTO_COUNT = 6, UPTO_VISITS = 6, SIZE = 6, SHARES = 3, COUNT = 22, LEASE = 10, ROWS = 3 };
+enum { BOUND = 3, UPTO_COUNT = 6, UPTO_VISITS = 6, CELLS = 4, SIZE = 6, SHARES = 3, COUNT = 22, LEASE = 10, ROWS = 3 };
 
 static kaldvemir_book book;
 static uint64_t tick;
@@ -47,6 +47,37 @@ static void print_upto(void) {
     if (given != UPTO_COUNT || visits != UPTO_VISITS) {
         fprintf(stderr, "not %d diagrams with %d visits\n", UPTO_COUNT, UPTO_VISITS);
         exit(EXIT_FAILURE);
+    }
+}
+
+/* A sheet of four cells, of which two are damaged: the last item of TJ1W is missing, and a number stands in the tail of UB. */
+static void print_sheet(void) {
+    static const uint16_t sheet[CELLS * KALDVEMIR_CELL] = {
+        [0] = 2, 0, 2, /* UB */
+        [KALDVEMIR_CELL] = 2, 1, 4, /* TJ1 */
+        [2 * KALDVEMIR_CELL] = 3, 1, 4, 0, /* TJ1W */
+        [3 * KALDVEMIR_CELL] = 2, 0, 2, 7,
+    };
+    static const uint16_t expected_refusals[CELLS] = {0, 25, 0, 61};
+    static const uint64_t expected_positions[CELLS] = {1, 0, 4, 0};
+    uint16_t refusals[CELLS] = {9, 9, 9, 9};
+    uint64_t positions[CELLS] = {9, 9, 9, 9};
+    /* a sheet that ends within a cell, and a list that is short */
+    expect("cut sheet", kaldvemir_sheet_positions(sheet, CELLS * KALDVEMIR_CELL - 1, refusals, CELLS, positions, CELLS), 61);
+    expect("short list", kaldvemir_sheet_positions(sheet, CELLS * KALDVEMIR_CELL, refusals, CELLS, positions, CELLS - 1), 9);
+    for (size_t i = 0; i < CELLS; i++) {
+        if (refusals[i] != 9 || positions[i] != 9) {
+            fprintf(stderr, "a refused sheet wrote\n");
+            exit(EXIT_FAILURE);
+        }
+    }
+    expect("sheet", kaldvemir_sheet_positions(sheet, CELLS * KALDVEMIR_CELL, refusals, CELLS, positions, CELLS), 0);
+    for (size_t i = 0; i < CELLS; i++) {
+        printf("cell %zu: refusal %u, position %" PRIu64 "\n", i + 1, (unsigned)refusals[i], positions[i]);
+        if (refusals[i] != expected_refusals[i] || positions[i] != expected_positions[i]) {
+            fprintf(stderr, "not refusal %u, position %" PRIu64 "\n", (unsigned)expected_refusals[i], expected_positions[i]);
+            exit(EXIT_FAILURE);
+        }
     }
 }
 
@@ -105,6 +136,7 @@ int main(void) {
     uint64_t committed, complete;
 
     print_upto();
+    print_sheet();
     print_rows();
     expect("open", kaldvemir_open(&book, SIZE, SHARES), 0);
     claim_share(&ada, 1);

@@ -35,6 +35,9 @@ extern "C" {
 #define KALDVEMIR_MAX_LISTED 50
 #define KALDVEMIR_MAX_SHARES 32
 
+/* The numbers in a cell of a sheet of words. */
+#define KALDVEMIR_CELL 52
+
 /* Bytes enough for a row of size n, as kaldvemir_rows writes it. */
 #define KALDVEMIR_ROW_BYTES(n) (9 * (size_t)(n) + 40)
 
@@ -165,6 +168,17 @@ uint16_t kaldvemir_upto_begin(uint64_t bound, kaldvemir_run *run, uint64_t *visi
  * list is short for the diagram that comes (its size n, n, and n + 1 for the word): at "end" none is. */
 uint16_t kaldvemir_upto_step(kaldvemir_run *run, uint64_t *visits, uint16_t *s0, size_t s0_len, uint16_t *s1, size_t s1_len,
                              uint16_t *word, size_t word_len, uint64_t *size, uint64_t *length);
+
+/* ---- a sheet of words: cells of KALDVEMIR_CELL numbers, one after another. A cell is the length of a word, 0 to 51, the word's items, and zeros. */
+
+/* Sheet positions: writes for each cell, in its place of the two lists, the number of its refusal, 0 where it is not refused, and its position, 0
+ * where it is: what reading its word into lists long enough and then asking for the position of the diagram read, with root 1, would answer. A
+ * cell that is refused does not hold up the next, and no cell's answer depends on another. The rest of both lists is untouched. An empty sheet
+ * writes nothing, and its lists may be empty. The call: 61 sheet_len is no multiple of KALDVEMIR_CELL; 9 a list has fewer places than the sheet
+ * has cells. A cell: 61 its length is above 51, or a number after its word is not 0; then as read word, 21 its length is 0, item by item 26, 22
+ * and 23, at the end 25; then 31 more than 50 edges. No cell is refused 24, since 51 items give at most 153 labels, and none 9. */
+uint16_t kaldvemir_sheet_positions(const uint16_t *sheet, size_t sheet_len, uint16_t *refusals, size_t refusals_len,
+                                   uint64_t *positions, size_t positions_len);
 
 /* ---- the share book. All but open refuse 50, a book that is not valid; all but open and report then 52, a tick below the latest or from 2^48
  * on. A refused call leaves the book as it was; an accepted one keeps its tick as the latest. */

@@ -187,6 +187,7 @@ pub fn on_line(
         set next|4NN|ok;\
         set ticket|5NN|ok;\
         set expiry|6NN|ok;\
+        sheet|hL01|0 9;\
         step|S012|0 1 2|end;\
         symmetries|sLLN|A;\
         take|TNN012|share A position B 0 1 2;\

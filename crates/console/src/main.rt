@@ -13,6 +13,7 @@
 //   symmetries S0 S1 ROOT                          their number
 //   kept S0 S1 ROOT                                yes or no
 //   read WORD [R0 R1]                              S0 S1
+//   sheet LIST [RA RB]                             REFUSALS POSITIONS, the pairs of its cells of 52 numbers: a word's length, its items, zeros
 //   lesser A B                                     1 A or 2 B, the list that is handed back
 //   letters WORD [ROOM]                            the word's letters, `-` for none
 //   count N                                        the number of diagrams of that size

@@ -103,9 +103,14 @@ module _ (x : Reply) (ls : Lists) (b : ℕ) (o r : Output) where
   unfolding fieldPieces
   put-list-of-bytes n e l q p = rw (n, e) (p ∙ ap (λ (l : List ℕ). putAll (bytesPieces b l) o) q)
 
-  pub put-other : isWithin 48 51 b ≡ false → isWithin 52 53 b ≡ false → r ≡ putAll (numberPieces x b) o → r ≡ putAll (fieldPieces x ls b) o
+  pub put-first-numbers : isWithin 48 51 b ≡ false → isWithin 52 53 b ≡ false → b ≡ 57 → (l : List ℕ) → l ≡ take (getD (x .lengths) 1 0) (x .numbers)
+      → r ≡ putAll (listPieces l) o → r ≡ putAll (fieldPieces x ls b) o
   unfolding fieldPieces
-  put-other n m p = rw (n, m) p
+  put-first-numbers n m e l q p = rw (n, m, eqb-eq b 57 e) (p ∙ ap (λ (l : List ℕ). putAll (listPieces l) o) q)
+
+  pub put-other : isWithin 48 51 b ≡ false → isWithin 52 53 b ≡ false → b ≢ 57 → r ≡ putAll (numberPieces x b) o → r ≡ putAll (fieldPieces x ls b) o
+  unfolding fieldPieces
+  put-other n m k p = rw (n, m, eqb-ne b 57 k) p
 
 -- ---- the bytes one after another
 

@@ -7,7 +7,7 @@
 --   bytesPieces b s       the bytes s as numbers where b is `4`, otherwise as letters
 --   longList k l          the k-th of the lists of 32 numbers that follow the first four numbers of l, the first being 0
 --   numberPieces r b      what b stands for where it is no output list: a long list, a number, the signed number, or b itself
---   fieldPieces r ls b    what b stands for
+--   fieldPieces r ls b    what b stands for; `9` for the first numbers, as many as the second of the lengths
 --   answerPieces r ls s   what the bytes of s stand for, one after another
 --   ReplyPut o o′         the answer of some reply put into o gives o′
 --   AnswerPut l o o′      so does the answer to the line l: a line that begins with `#` as it stands, any other the answer of a reply
@@ -54,7 +54,8 @@ unfoldable pub fieldPieces : Reply → Lists → ℕ → List (List ℕ)
 fieldPieces r ls b =
     cond (isWithin 48 51 b) (listPieces (take (getD (r .lengths) (b - 48) 0) (getD (ls .numbers) (b - 48) [])))
     (cond (isWithin 52 53 b) (bytesPieces b (take (getD (r .lengths) 4 0) (ls .bytes)))
-    (numberPieces r b))
+    (cond (eqb b 57) (listPieces (take (getD (r .lengths) 1 0) (r .numbers)))
+    (numberPieces r b)))
 
 unfoldable pub answerPieces : Reply → Lists → List ℕ → List (List ℕ)
 answerPieces r ls [] = []

@@ -1,6 +1,6 @@
 // The text of an answer. Each byte of it stands for itself, but a digit, a capital letter or `+` for a field of the reply: 0 to 3 for an output
-// list, 4 for the output list of bytes as numbers and 5 for it as letters, 6 to 8 for a long list, A to Z for a number and + for the signed
-// number (specs/Answers.antt). Of an output list the first entries are printed, as many as the reply says.
+// list, 4 for the output list of bytes as numbers and 5 for it as letters, 6 to 8 for a long list, 9 for the first of the numbers, A to Z for a
+// number and + for the signed number (specs/Answers.antt). Of an output list the first entries are printed, as many as the reply says.
 use console_replies::Reply;
 use text_printing::put_byte;
 use text_printing::put_list;
@@ -101,6 +101,18 @@ fn long_list<'a>(numbers: &'a [u64; 100], k: usize) -> &'a [u64]
     &all[start..end]
 }
 
+// The first n of a reply's numbers, all where there are fewer.
+fn first_numbers<'a>(numbers: &'a [u64; 100], n: u64) -> &'a [u64]
+    ensures { λ r. ⌜ now r ≡ take n (now (numbers .entry)) ⌝ }
+{
+    let all: &[u64] = numbers;
+    if all.len() as u64 <= n {
+        return all;
+    }
+    let end = n as usize;
+    &all[0..end]
+}
+
 // A field that is in no output list, or a byte that stands for itself.
 fn put_numbers(out: &mut [u8], place: usize, byte: u8, reply: Reply) -> usize
     ensures { λ r. ⌜ output (now (out .exit)) r ≡ putAll (numberPieces reply byte) (output (now (out .entry)) place) ⌝ }
@@ -145,6 +157,10 @@ fn put_field<'a>(
     }
     if within(byte, b'4', b'5') {
         return put_bytes(out, place, byte, first_bytes(bytes, counts[4]));
+    }
+    if byte == b'9' {
+        let numbers = reply.numbers;
+        return put_long_list(out, place, first_numbers(&numbers, counts[1]));
     }
     put_numbers(out, place, byte, reply)
 }

@@ -20,6 +20,7 @@ fn on_words(
     match letter {
         b'a' => words::diagram_at(values[1], values[2], s0, s1, word),
         b'd' => words::read(list, s0, s1),
+        b'h' => words::sheet(list, values, s0),
         b'l' => words::lesser(list, entries_of(entries, values, 2), s0),
         b'm' => words::reached(list, bytes),
         b'n' => words::count(values[1]),

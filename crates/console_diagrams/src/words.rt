@@ -1,5 +1,6 @@
 // The commands on words, on marks and on a size.
 use console_commands::arguments::marks_of;
+use console_commands::arguments::room;
 use console_replies::Reply;
 use console_replies::blocks::copy_into;
 use console_replies::chosen;
@@ -7,6 +8,7 @@ use console_replies::done;
 use console_replies::error;
 use console_replies::listed;
 use console_replies::shown;
+use console_replies::unless_refused;
 use console_replies::valued;
 use kaldvemir::given::kaldvemir_all_reached;
 use kaldvemir::listed::kaldvemir_count;
@@ -14,6 +16,7 @@ use kaldvemir::listed::kaldvemir_diagram_at;
 use kaldvemir::listed::kaldvemir_plain_walk;
 use kaldvemir::runs::kaldvemir_begin_at;
 use kaldvemir::runs::kaldvemir_rows;
+use kaldvemir::sheets::kaldvemir_sheet_positions;
 use kaldvemir::spelling::kaldvemir_lesser;
 use kaldvemir::spelling::kaldvemir_letters;
 use kaldvemir::spelling::kaldvemir_read_word;
@@ -22,6 +25,17 @@ pub fn read(word: &[u16], s0: &mut [u16], s1: &mut [u16]) -> Reply {
     let mut size: u64 = 0;
     let refusal = kaldvemir_read_word(word, s0, s1, &mut size);
     listed(refusal, 0, [size, size, 0, 0, 0])
+}
+
+// The positions of a sheet are the numbers of the reply, of which there are 100: a line has at most 39 cells.
+pub fn sheet(sheet: &[u16], values: [u64; 16], refusals: &mut [u16]) -> Reply {
+    let mut positions = [0u64; 100];
+    let end = room(values, 1, 100);
+    let refusal = kaldvemir_sheet_positions(sheet, refusals, &mut positions[0..end]);
+    let cells = (sheet.len() / 52) as u64;
+    let mut reply = listed(0, 0, [cells, cells, 0, 0, 0]);
+    reply.numbers = positions;
+    unless_refused(refusal, reply)
 }
 
 // The number of the list that is handed back, and the list.

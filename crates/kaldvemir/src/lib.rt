@@ -6,5 +6,6 @@ pub mod books;
 pub mod given;
 pub mod listed;
 pub mod runs;
+pub mod sheets;
 pub mod spelling;
 pub mod upto;

@@ -7,6 +7,7 @@ pub use Rattle.words_reading.specs.Answers.{read-number, read-size}
 pub use Rattle.labelling_operations.specs.Answers.{relabel-number, relabel-length, compare-number, compare-same, compare-side, symmetries-number, symmetries-count, kept-number, kept-mark}
 pub use Rattle.invariants.specs.Answers.{invariants-number, invariants-e2, invariants-e3, invariants-c, invariants-t, invariants-level}
 pub use Rattle.listing_ranking.specs.Answers.{count-number, count-total, entry-number, entry-length, located-number, located-position}
+pub use Rattle.sheet.specs.Answers.{sheet-number}
 pub use Rattle.listing_plain_walk.specs.Answers.{walk-number, walk-count}
 pub use Rattle.run_steps.specs.Answers.{begin-number, step-number, step-length}
 pub use Rattle.run_blocks.specs.Answers.{list-number, list-rows}

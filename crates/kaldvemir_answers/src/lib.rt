@@ -11,6 +11,7 @@ use listing_plain_walk::Walked;
 use listing_ranking::Entry;
 use listing_ranking::Place;
 use listing_ranking::Total;
+use sheet_positions::SheetAnswer;
 use words::Lettered;
 use words_reading::Reading;
 ghost use mathlib.Core.Path.{_≡_};
@@ -196,5 +197,14 @@ pub fn walk_answer(a: Walked, count: &mut u64) -> u16
             0
         }
         Walked::Refused(k) => k,
+    }
+}
+
+pub fn sheet_answer(a: SheetAnswer) -> u16
+    ensures { λ r. ⌜ r ≡ answers.sheet-number a ⌝ }
+{
+    match a {
+        SheetAnswer::Answered => 0,
+        SheetAnswer::Refused(k) => k,
     }
 }

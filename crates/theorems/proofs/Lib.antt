@@ -7,6 +7,7 @@ pub mod Steps
 pub mod SecondList
 pub mod SingleList
 pub mod UptoSteps
+pub mod Sheets
 pub mod Blocks
 pub mod Demand3
 pub mod Corollaries

@@ -17,12 +17,13 @@ use Rattle.labelling.proofs.OfLists.{spelled-accepted}
 use Rattle.labelling.proofs.Rootings.{accepts-rerooted, kept-least, least-kept}
 use Rattle.invariants_cycles.specs.Cycles.{t, fixedPoints, cycles, longest, period, leastOfCycle}
 use Rattle.listing.specs.Listing.{completions, listing, count}
-use Rattle.listing.specs.Position.{wordAt}
+use Rattle.listing.specs.Position.{wordAt, position}
 use Rattle.listing.specs.Diagrams.{diagramOf, diagramAt}
 use Rattle.listing_ranking.specs.declared.Total.the-variants.{Number}
 use Rattle.listing_ranking.specs.Promises.{CountPromise}
 use Rattle.upto.specs.Upto.{upto, total}
 use Rattle.upto.specs.Visits.{visits}
+use Rattle.sheet.specs.Cells.{cells, cell}
 use Rattle.book.specs.Shares.{first, last, finished, holder, lapsed}
 use Rattle.book.specs.Valid.{in-range, next-in, finished-free, ticket-once, ticket-issued, expiry-in, share-valid, entry-unused, entries-valid, counters-in, valid}
 use Rattle.book.specs.Calls.{opened, entered, tick-in, held, claim-number, claim-book, ticket-number, due, commit-number, commit-answer}
@@ -67,7 +68,7 @@ rerooted root e (no-path size lengths r blacks whites thrice twice distinct) = n
 -- ---- the table
 
 pub table : Table
-unfolding listing completions letters events-letters decimal digits wordAt diagramAt diagramOf spell spells fixedPoints cycles longest period leastOfCycle t wordOf label events event characteristic labels relabel readAnswer read items upto total visits
+unfolding listing completions letters events-letters decimal digits wordAt diagramAt diagramOf spell spells fixedPoints cycles longest period leastOfCycle t wordOf label events event characteristic labels relabel readAnswer read items upto total visits cells cell position
 table = record {
   a = record { items-are = refl; names-are = refl; diagrams-are = refl };
   b = record { items-are = refl; names-are = refl; diagrams-are = refl };
@@ -87,6 +88,7 @@ table = record {
   );
   l = (size-1-in-32, size-1-only-32);
   upto-3 = (refl, refl);
+  sheet-4 = (refl, refl);
 }
 
 -- ---- the edges

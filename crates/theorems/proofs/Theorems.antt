@@ -6,6 +6,7 @@ use Rattle.theorems.proofs.Corollaries.{corollaries-hold}
 use Rattle.theorems.proofs.SecondList.{begun-at-holds}
 use Rattle.theorems.proofs.SingleList.{single-list-holds, visits-hold}
 use Rattle.theorems.proofs.UptoSteps.{upto-list-holds}
+use Rattle.theorems.proofs.Sheets.{sheets-hold}
 use Rattle.theorems.proofs.Blocks.{blocks-are-steps, marked-blocks-are-steps, walk-agrees-holds}
 use Rattle.theorems.proofs.BookNumbers.{book-numbers}
 use Rattle.theorems.proofs.Determined.{determined}
@@ -23,6 +24,7 @@ theorems = record {
   single-list = single-list-holds;
   visits = visits-hold;
   upto-list = upto-list-holds;
+  sheets = sheets-hold;
   book-numbers = book-numbers;
   determined = determined;
   table = table;

@@ -45,6 +45,8 @@ use Rattle.upto_answers.specs.declared.UptoStepping.{UptoStepping}
 use Rattle.upto_answers.specs.Promises.{UptoBeginPromise, UptoStepPromise}
 use Rattle.run_text.specs.declared.RowsAnswer.{RowsAnswer}
 use Rattle.run_text.specs.Promises.{RowsPromise}
+use Rattle.sheet.specs.declared.SheetAnswer.{SheetAnswer}
+use Rattle.sheet.specs.Promises.{SheetPromise}
 use Rattle.book.specs.declared.types.Book.{Book}
 use Rattle.book.specs.declared.types.Taking.{Taking}
 use Rattle.book.specs.Taken.{TakePromise}
@@ -82,6 +84,8 @@ pub record Determined : Type 0 where
   pub diagram-at-once : (n p : ℕ) (a0 a1 aw b0 b1 bw c0 c1 cw : List ℕ) (r q : Entry) → DiagramAtPromise n p a0 a1 aw b0 b1 bw r → DiagramAtPromise n p a0 a1 aw c0 c1 cw q
       → (r ≡ q) × SameLists b0 b1 bw c0 c1 cw
   pub position-once : (s0 s1 : List ℕ) (root : ℕ) (r q : Place) → PositionPromise s0 s1 root r → PositionPromise s0 s1 root q → r ≡ q
+  -- a sheet of words
+  pub sheet-once : (s a b c d e f : List ℕ) (r q : SheetAnswer) → SheetPromise s a b c d r → SheetPromise s a b e f q → (r ≡ q) × (c ≡ e) × (d ≡ f)
   -- the plain walk
   pub plain-walk-once : (n : ℕ) (a b c : List ℕ) (r q : Walked) → PlainWalkPromise n a b r → PlainWalkPromise n a c q → (r ≡ q) × (b ≡ c)
   -- a run's beginning, first and at a position, and its step; `next` and `other` are the run that is left

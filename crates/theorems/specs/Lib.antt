@@ -6,6 +6,7 @@ pub mod FirstList
 pub mod SecondList
 pub mod SingleList
 pub mod UptoSteps
+pub mod Sheets
 pub mod Blocks
 pub mod Demand3
 pub mod Corollaries

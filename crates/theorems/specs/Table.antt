@@ -8,15 +8,17 @@
 --   Line p ..                  line p of the census of size 3: its word, letters, s0, s1, invariants and keep mark (1: K, 0: a hyphen)
 --   RelabelsTo s0 s1 root ..   check accepts the diagram, and it has that word, those letters and that characteristic labelling
 --   Share n k j p q            share j of k holds the positions p to q of size n
+--   inCell w x                 the cell of a sheet with the word w and, as its last number, x
 --   Table, Limits              01's table; its edges
 -- and from elsewhere: listing, count, wordAt, diagramAt (listing); letters (words, Letters); e2, .., level (invariants_cycles); MarkOf (run_blocks, Rows);
 -- wordOf, characteristic (labelling); Accepts, CheckPromise (diagrams, Check); readAnswer (words_reading, Read); first, last, ShareHolds (book);
 -- CountPromise, DiagramAtPromise (listing_ranking, Promises); total, visits (upto); opened, claim-book, commit-answer (book, Calls).
 use mathlib.Core.Path.{_≡_}
-use mathlib.Core.List.{List, [], _∷_, map}
+use mathlib.Core.List.{List, [], _∷_, _++_, map}
 use mathlib.Core.Option.{some}
-use Prim.Native.Nat.{ℕ}
+use Prim.Native.Nat.{ℕ, _-_}
 use lib.IntN.{ℤ, pos}
+use lib.ListN.{length, replicate}
 use Rattle.lists.specs.Lists.{at}
 use Rattle.lists.specs.Ranges.{OneTo}
 use Rattle.diagrams.specs.Check.{Accepts, CheckPromise}
@@ -36,6 +38,7 @@ use Rattle.listing_ranking.specs.declared.Entry.the-variants as entry
 use Rattle.listing_ranking.specs.Promises.{CountPromise, DiagramAtPromise}
 use Rattle.upto.specs.Upto as upto
 use Rattle.upto.specs.Visits.{visits}
+use Rattle.sheet.specs.Cells as sheet
 use Rattle.book.specs.declared.types.Book.{Book}
 use Rattle.book.specs.declared.types.Committing.the-variants as committing
 use Rattle.book.specs.Shares.{first, last}
@@ -108,6 +111,10 @@ pub record Share (n k j p q : ℕ) : Type 0 where
   pub first-is : first n k j ≡ p
   pub last-is : last n k j ≡ q
 
+-- a word in a cell: its length, its items, and then zeros up to the last number, which is x
+abbrev pub inCell : List ℕ → ℕ → List ℕ
+inCell w x = length w ∷ (w ++ (replicate (50 - length w) 0 ++ (x ∷ [])))
+
 -- ---- the table
 
 pub record Table : Type 0 where
@@ -144,6 +151,9 @@ pub record Table : Type 0 where
   pub l : ShareHolds 1 32 32 1 × ((share p : ℕ) → ShareHolds 1 32 share p → (share ≡ 32) × (p ≡ 1))
   -- and request U1's example: the sizes 1 to 3 together are 6 diagrams and, at the last of them, 6 visits
   pub upto-3 : (upto.total 3 ≡ 6) × (visits 3 6 ≡ 6)
+  -- and a sheet (request U2) of four cells: TJ1W is (f), TW is (j), UB is (b), and UB with a number in its tail is 61
+  pub sheet-4 : (sheet.refusals (inCell (1 ∷ 4 ∷ 0 ∷ []) 0 ++ (inCell (1 ∷ 0 ∷ []) 0 ++ (inCell (0 ∷ 2 ∷ []) 0 ++ inCell (0 ∷ 2 ∷ []) 1))) ≡ 0 ∷ 25 ∷ 0 ∷ 61 ∷ [])
+      × (sheet.positions (inCell (1 ∷ 4 ∷ 0 ∷ []) 0 ++ (inCell (1 ∷ 0 ∷ []) 0 ++ (inCell (0 ∷ 2 ∷ []) 0 ++ inCell (0 ∷ 2 ∷ []) 1))) ≡ 4 ∷ 0 ∷ 1 ∷ 0 ∷ [])
 
 -- ---- the edges: the last that is taken and the first that is refused
 

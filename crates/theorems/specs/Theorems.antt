@@ -5,6 +5,7 @@ use Rattle.theorems.specs.Corollaries.{CorollariesHold}
 use Rattle.theorems.specs.SecondList.{BegunAtHolds}
 use Rattle.theorems.specs.SingleList.{SingleListHolds, VisitsHold}
 use Rattle.theorems.specs.UptoSteps.{UptoListHolds}
+use Rattle.theorems.specs.Sheets.{SheetsHold}
 use Rattle.theorems.specs.Blocks.{BlocksAreSteps, MarkedBlocksAreSteps, WalkAgreesHolds}
 use Rattle.theorems.specs.BookNumbers.{BookNumbers}
 use Rattle.theorems.specs.Determined.{Determined}
@@ -30,10 +31,12 @@ pub record Theorems : Type 0 where
   pub visits : VisitsHold
   -- the steps of a run through it give its diagrams in order, without a gap, and end after all
   pub upto-list : UptoListHolds
+  -- a sheet of words in one call: each cell has the pair that two calls give it, and no other cell alters it
+  pub sheets : SheetsHold
   -- the share book's answers have 01's numbers
   pub book-numbers : BookNumbers
   -- every other promise leaves one answer, and one content of what was lent
   pub determined : Determined
-  -- 01's table (a) to (l) and request U1's example, and the edges beside it
+  -- 01's table (a) to (l) and an example of each request that has landed, and the edges beside it
   pub table : Table
   pub limits : Limits

@@ -144,14 +144,28 @@ rest-end rest i t h = rw (drop-of-length-le rest h)
 
 -- ---- the whole word
 
-pub answer-empty : (w : List ℕ) (a b : ℕ) → length w ≡ 0 → readAnswer w a b ≡ refused 21
-unfolding readAnswer read
-answer-empty w a b e = rw (length-0 w e)
+pub read-empty : (w : List ℕ) → length w ≡ 0 → read w ≡ refused 21
+unfolding read
+read-empty w e = rw (length-0 w e)
 
-pub answer-long : (w : List ℕ) (a b : ℕ) → 1025 < length w → readAnswer w a b ≡ refused 21
-unfolding readAnswer read
-answer-long w a b h = rw (le-false (length w) 1025 h)
+pub read-long : (w : List ℕ) → 1025 < length w → read w ≡ refused 21
+unfolding read
+read-long w h = rw (le-false (length w) 1025 h)
 
-pub answer-opening : (w : List ℕ) (a b : ℕ) → length w ≤ 1025 → readAnswer w a b ≡ withRoom (readFirst w) a b
-unfolding readAnswer read
-answer-opening w a b h = rw (le-true (length w) 1025 h)
+pub read-opening : (w : List ℕ) → length w ≤ 1025 → read w ≡ readFirst w
+unfolding read
+read-opening w h = rw (le-true (length w) 1025 h)
+
+module _ (w : List ℕ) (a b : ℕ) where
+  roomed : (q : Read) → read w ≡ q → readAnswer w a b ≡ withRoom q a b
+  unfolding readAnswer
+  roomed q e = ap (λ (p : Read). withRoom p a b) e
+
+  pub answer-empty : length w ≡ 0 → readAnswer w a b ≡ refused 21
+  answer-empty e = roomed (refused 21) (read-empty w e)
+
+  pub answer-long : 1025 < length w → readAnswer w a b ≡ refused 21
+  answer-long h = roomed (refused 21) (read-long w h)
+
+  pub answer-opening : length w ≤ 1025 → readAnswer w a b ≡ withRoom (readFirst w) a b
+  answer-opening h = roomed (readFirst w) (read-opening w h)

@@ -16,11 +16,11 @@ use Rattle.words.proofs.Growing.{none≢some, cond-some}
 use Rattle.words.proofs.Shape.{grows}
 use Rattle.words_reading.specs.Read.{Read, refused, built, items, readFirst, read}
 
-not-built : (n : ℕ) (D : Pair) → ¬ (refused n ≡ built D)
+pub not-built : (n : ℕ) (D : Pair) → ¬ (refused n ≡ built D)
 not-built n D e = let z : _≡_ {A = ℕ} 0 1 = cc in omega arith
 
 -- a test that is passed, where what follows is built
-built-passed : (b : Bool) (q : Read) (n : ℕ) (D : Pair) → cond b q (refused n) ≡ built D → (b ≡ true) × (q ≡ built D)
+pub built-passed : (b : Bool) (q : Read) (n : ℕ) (D : Pair) → cond b q (refused n) ≡ built D → (b ≡ true) × (q ≡ built D)
 built-passed true q n D e = (refl, e)
 built-passed false q n D e = absurd (not-built n D e)
 

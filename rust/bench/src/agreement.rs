@@ -4,8 +4,8 @@ use crate::blocks;
 use crate::generator::{generate, kept_known};
 use crate::lines::Page;
 use crate::random::{Diagram, Random};
-use kaldvemir::{Book, Run, UptoRun};
-use crate::rows::{books::opened, census, given::words, listing, whole};
+use kaldvemir::{Book, Run, UptoRun, CELL};
+use crate::rows::{books::opened, census, given::words, listing, sheets as pages, whole};
 use crate::table::count_of;
 use crate::{letters, library, same, tuned};
 use std::fmt::Debug;
@@ -17,6 +17,7 @@ pub fn all() {
     at_positions(&mut random);
     runs(&mut random);
     upto_runs(&mut random);
+    sheets(&mut random);
     books(&mut random);
     lists();
     lists_in_blocks();
@@ -215,6 +216,74 @@ fn upto_runs(random: &mut Random) {
             _ => {}
         }
         upto_step(random, &run, size);
+    }
+}
+
+type ReadWord = fn(&[u16], &mut [u16], &mut [u16]) -> Result<usize, u16>;
+type Position = fn(&[u16], &[u16], u64) -> Result<u64, u16>;
+
+/// The answer to a cell by reading its word and asking for the position.
+fn cell_by(read: ReadWord, position: Position, cell: &[u16]) -> Result<u64, u16> {
+    let (mut s0, mut s1) = ([0; 160], [0; 160]);
+    let length = cell[0] as usize;
+    if length >= CELL || cell[length + 1..].iter().any(|&number| number != 0) {
+        return Err(61);
+    }
+    let size = read(&cell[1..=length], &mut s0, &mut s1)?;
+    position(&s0[..size], &s1[..size], 1)
+}
+
+/// A sheet, cell by cell.
+fn sheet_by(read: ReadWord, position: Position, sheet: &[u16], refusals: &mut [u16], positions: &mut [u64]) -> Result<(), u16> {
+    let cells = sheet.chunks_exact(CELL);
+    if !cells.remainder().is_empty() {
+        return Err(61);
+    }
+    if refusals.len() < cells.len() || positions.len() < cells.len() {
+        return Err(9);
+    }
+    for ((cell, refusal), place) in cells.zip(refusals).zip(positions) {
+        (*refusal, *place) = match cell_by(read, position, cell) {
+            Ok(position) => (0, position),
+            Err(number) => (number, 0),
+        };
+    }
+    Ok(())
+}
+
+/// A sheet of so many words of one size, in some cases of 54 edges; some of its cells are damaged, and now and then it ends within a cell.
+fn any_sheet(random: &mut Random, cells: usize) -> Vec<u16> {
+    let size = 1 + random.below(50) as usize;
+    let words = match random.below(8) {
+        0 => words(&(0..cells).map(|_| random.diagram(54)).collect::<Vec<_>>()),
+        _ => pages::words(random, size, cells),
+    };
+    let mut sheet = pages::sheet(&words);
+    for _ in 0..random.below(cells as u64 + 1) {
+        let cell = random.below(cells as u64) as usize;
+        let place = [0, 1, 2, 5, CELL - 1, random.below(CELL as u64) as usize][random.below(6) as usize];
+        sheet[cell * CELL + place] = random.below(if place == 0 { 60 } else { 6 }) as u16;
+    }
+    sheet.extend((random.below(16) == 0).then_some(0));
+    sheet
+}
+
+fn sheets(random: &mut Random) {
+    let sides: [(ReadWord, Position); 3] = [
+        (library::read_word, library::position),
+        (same::reading::read_word, same::positions::position),
+        (tuned::reading::read_word, tuned::positions::position),
+    ];
+    for _ in 0..1500 {
+        let cells = random.below(20) as usize;
+        let sheet = any_sheet(random, cells);
+        let mut room = || cells.saturating_sub((random.below(16) == 0) as usize) + random.below(3) as usize;
+        let lists = (vec![7; room()], vec![7; room()]);
+        for (read, position) in sides {
+            let ((mut a, mut b), (mut c, mut d)) = (lists.clone(), lists.clone());
+            let (x, y) = (library::sheet_positions(&sheet, &mut a, &mut b), sheet_by(read, position, &sheet, &mut c, &mut d));
+            equal("sheet", (x, a, b), (y, c, d));
+        }
     }
 }
 

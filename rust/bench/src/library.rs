@@ -51,6 +51,10 @@ pub fn upto_step(run: &mut UptoRun, s0: &mut [u16], s1: &mut [u16], word: &mut [
     run.step(s0, s1, word).map_err(Refusal::number)
 }
 
+pub fn sheet_positions(sheet: &[u16], refusals: &mut [u16], positions: &mut [u64]) -> Result<(), u16> {
+    kaldvemir::sheet_positions(sheet, refusals, positions).map_err(Refusal::number)
+}
+
 /// How many diagrams were written.
 pub fn list(run: &mut Run, rows: u64, Block { s0, s1, words, lengths, .. }: &mut Block) -> Result<u64, u16> {
     run.list(rows, s0, s1, words, lengths).map_err(Refusal::number)

@@ -34,6 +34,7 @@ fn main() -> ExitCode {
     println!("baseline: the same method in plain Rust (of the census by single steps), and of whole lists Vidal's generator");
     println!("tuned: plain Rust by methods of its own");
     println!("upto step to run step: both of the library; visit test to upto step: both in plain Rust by the same method");
+    println!("sheet to read and position: both of the library, 1,000 words in one call and in 2,000, per word");
     timing::print_header();
     let mut missed = 0;
     for (name, row) in rows::ROWS {

@@ -3,12 +3,13 @@ pub mod books;
 pub mod census;
 pub mod given;
 pub mod listing;
+pub mod sheets;
 pub mod whole;
 
 use crate::timing::{Row, Work};
 
 /// The name of each row, and how it is set up.
-pub const ROWS: [(&str, fn() -> Row); 31] = [
+pub const ROWS: [(&str, fn() -> Row); 32] = [
     ("check 1024", given::check),
     ("read word 1024", given::read_word),
     ("relabel 1024", given::relabel_large),
@@ -21,6 +22,7 @@ pub const ROWS: [(&str, fn() -> Row); 31] = [
     ("upto step 25", listing::upto_steps),
     ("upto step 25 to run step 25", listing::upto_steps_to_steps),
     ("visit test 25 to upto step 25", listing::visit_tests),
+    ("sheet 24 to read and position", sheets::sheet_to_calls),
     ("census line 20", census::census),
     ("census line 20 by steps", census::census_by_steps),
     ("claim 24, 32 shares", books::claim_32),

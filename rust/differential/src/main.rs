@@ -17,6 +17,7 @@ mod outcomes;
 mod random;
 mod rows;
 mod runs;
+mod sheets;
 mod upto;
 
 use outcomes::{Compared, OutcomeCounts};
@@ -36,7 +37,7 @@ const PIECE: u64 = 5_000;
 type Comparison = fn(&mut Random, &mut OutcomeCounts) -> Compared;
 
 /// Each comparison with the operations it compares.
-const COMPARISONS: [(Comparison, &[&str]); 25] = [
+const COMPARISONS: [(Comparison, &[&str]); 26] = [
     (given::kept, &["kept"]),
     (blocks::list_marked, &["list marked"]),
     (blocks::list, &["list"]),
@@ -60,6 +61,7 @@ const COMPARISONS: [(Comparison, &[&str]); 25] = [
     (runs::steps, &["step"]),
     (upto::begin, &["upto begin"]),
     (upto::steps, &["upto step"]),
+    (sheets::sheet_positions, &["sheet positions"]),
     (books::open, &["open"]),
     (books::life, &["claim", "take", "commit", "commit range", "release", "report"]),
 ];

@@ -21,7 +21,7 @@ pub struct Difference {
 pub type Compared = Result<(), Box<Difference>>;
 
 /// Every operation with the kinds of its accepted answers and its refusals: each is to be met.
-pub const OPERATIONS: [(&str, &[&str], &[u16]); 33] = [
+pub const OPERATIONS: [(&str, &[&str], &[u16]); 35] = [
     ("check", &["accepted"], GIVEN),
     ("all reached", &["yes", "no"], &[]),
     ("relabel", &["accepted"], &[1, 2, 3, 4, 5, 6, 7, 8, 9]),
@@ -47,6 +47,9 @@ pub const OPERATIONS: [(&str, &[&str], &[u16]); 33] = [
     ("upto step", &["diagram", "end", "end without room"], &[34, 9]),
     // a step of a run that is right but for its visits
     ("wrong visits", &[], &[34]),
+    ("sheet positions", &["cells", "empty", "empty without room"], &[61, 9]),
+    // each cell of the sheets that are taken
+    ("cell of a sheet", &["position"], &[61, 21, 26, 22, 23, 25, 31]),
     ("open", &["accepted"], &[31, 51]),
     ("claim", &["accepted"], &[50, 52, 53, 54, 55, 56, 57]),
     ("take", &["accepted"], &[50, 52, 58, 59, 9]),

@@ -24,6 +24,7 @@ mod listed;
 mod raw;
 mod refusals;
 mod runs;
+mod sheets;
 mod upto;
 mod words;
 
@@ -33,5 +34,6 @@ pub use given::{all_reached, check, compare_rooted, compare_unrooted, invariants
 pub use listed::{count, diagram_at, plain_walk, position};
 pub use refusals::{Refusal, Side, Sided};
 pub use runs::{row_bytes, Rows, Run};
+pub use sheets::{cell, sheet_positions, CELL};
 pub use upto::{Stepped, UptoRun};
 pub use words::{lesser, letters, read_word};

@@ -59,6 +59,9 @@ extern "C" {
         run: *mut Run, visits: *mut u64, s0: *mut u16, s0_len: usize, s1: *mut u16, s1_len: usize, word: *mut u16, word_len: usize,
         size: *mut u64, length: *mut u64,
     ) -> u16;
+    fn kaldvemir_sheet_positions(
+        sheet: *const u16, sheet_len: usize, refusals: *mut u16, refusals_len: usize, positions: *mut u64, positions_len: usize,
+    ) -> u16;
     fn kaldvemir_open(book: *mut Book, size: u64, shares: u64) -> u16;
     fn kaldvemir_claim(book: *mut Book, tick: u64, share: u64, length: u64, ticket: *mut u64) -> u16;
     fn kaldvemir_take(
@@ -238,6 +241,15 @@ pub(crate) fn upto_step(run: &mut UptoRun, s0: &mut [u16], s1: &mut [u16], word:
     unsafe {
         kaldvemir_upto_step(
             run, visits, s0.as_mut_ptr(), s0.len(), s1.as_mut_ptr(), s1.len(), word.as_mut_ptr(), word.len(), size, length,
+        )
+    }
+}
+
+#[inline]
+pub(crate) fn sheet_positions(sheet: &[u16], refusals: &mut [u16], positions: &mut [u64]) -> u16 {
+    unsafe {
+        kaldvemir_sheet_positions(
+            sheet.as_ptr(), sheet.len(), refusals.as_mut_ptr(), refusals.len(), positions.as_mut_ptr(), positions.len(),
         )
     }
 }

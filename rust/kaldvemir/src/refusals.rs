@@ -66,12 +66,14 @@ pub enum Refusal {
     TicketLapsed = 59,
     /// 60: the position is not the next one of the ticket's share.
     PositionNotNext = 60,
+    /// 61: the sheet's length is no multiple of 52, or a cell's length is above 51 or a number after its word is not 0.
+    CellInvalid = 61,
 }
 
 use Refusal::*;
 
 /// Every refusal with the words that tell it.
-const REFUSALS: [(Refusal, &str); 30] = [
+const REFUSALS: [(Refusal, &str); 31] = [
     (SizeOutside, "the length of s0 is 0 or above 1,024"),
     (LengthsDiffer, "the lengths of s0 and s1 differ"),
     (RootOutside, "the root is not an edge"),
@@ -102,6 +104,7 @@ const REFUSALS: [(Refusal, &str); 30] = [
     (TicketAbsent, "the ticket stands at no share"),
     (TicketLapsed, "the ticket has lapsed"),
     (PositionNotNext, "the position is not the next one of the share"),
+    (CellInvalid, "the sheet's length is no multiple of 52, or a cell's length is above 51 or its tail is not zero"),
 ];
 
 impl Refusal {
@@ -110,10 +113,15 @@ impl Refusal {
         self as u16
     }
 
+    /// The refusal that has a number, such as [`sheet_positions`](crate::sheet_positions) writes for a cell; `None` where none has it, as of 0.
+    pub fn from_number(number: u16) -> Option<Refusal> {
+        REFUSALS.iter().map(|(refusal, _)| *refusal).find(|refusal| refusal.number() == number)
+    }
+
     /// The refusal of a number that the library answered. The library answers none but 01's; any other is a bug of the binding.
     pub(crate) fn of(number: u16) -> Refusal {
-        match REFUSALS.iter().find(|(refusal, _)| refusal.number() == number) {
-            Some((refusal, _)) => *refusal,
+        match Refusal::from_number(number) {
+            Some(refusal) => refusal,
             None => panic!("the library answered {number}, which is no refusal of 01"),
         }
     }
@@ -164,11 +172,12 @@ mod tests {
 
     #[test]
     fn every_number_of_01_has_its_refusal() {
-        let numbers: Vec<u16> = (1..=9).chain(21..=26).chain([31, 32, 34, 35]).chain(50..=60).collect();
+        let numbers: Vec<u16> = (1..=9).chain(21..=26).chain([31, 32, 34, 35]).chain(50..=61).collect();
         assert_eq!(numbers.len(), REFUSALS.len());
-        for number in numbers {
-            assert_eq!(Refusal::of(number).number(), number);
+        for number in 0..=u16::MAX {
+            assert_eq!(Refusal::from_number(number).map(Refusal::number), numbers.contains(&number).then_some(number));
         }
+        assert_eq!(Refusal::of(61), CellInvalid);
         assert_eq!(Refusal::of(59).to_string(), "refused 59: the ticket has lapsed");
     }
 

@@ -13,6 +13,7 @@ mod labelling;
 mod listing;
 mod rows;
 mod runs;
+mod sheets;
 mod upto;
 mod words;
 
@@ -23,6 +24,7 @@ pub use labelling::{kept, relabel, symmetries};
 pub use listing::{all_words, count, diagram_at, plain_walk, position};
 pub use rows::Rows;
 pub use runs::{Block, BlockRooms, Run};
+pub use sheets::{cell_position, sheet_positions, CellAnswers};
 pub use upto::{list_upto, UptoRun};
 pub use words::{letters, read_word, second_is_less};
 

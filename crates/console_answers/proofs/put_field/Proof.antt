@@ -1,7 +1,7 @@
--- An output list of numbers, that of bytes, and what is in neither.
+-- An output list of numbers, that of bytes, the first of the reply's numbers, and any other field.
 use mathlib.Core.Path.{sym, _∙_}
 use native.Mathlib.Omega.{arith}
-use Rattle.console_answers.proofs.Answers.{within-both, put-entries, put-list-of-bytes, put-other}
+use Rattle.console_answers.proofs.Answers.{within-both, put-entries, put-list-of-bytes, put-first-numbers, put-other}
 use borrow.Author.Needs.{needs}
 use Rattle.console_answers.proofs.put_field.Statement.{statement}
 use Rattle.console_answers.proofs.put_field.Tie as tie
@@ -54,14 +54,29 @@ same-length-2 c = search needs
 returns-2 : tie.Need-returns-2
 returns-2 c = put-list-of-bytes _ _ _ _ _ (sym (c .before .before .before .before .before .before .before .before .within .ensures) ∙ c .before .before .before .before .before .before .before .if1 .left) (sym (c .before .before .before .before .before .before .within2 .ensures) ∙ c .before .before .before .before .before .if2 .taken) _ (c .before .before .before .first-bytes .ensures) (c .before .before .put-bytes .ensures)
 
-put-numbers-requires : tie.Need-put-numbers-requires
-put-numbers-requires c κs = search needs
+array-read-first-numbers : tie.Need-array-read-first-numbers
+array-read-first-numbers c = search needs
+
+first-numbers-requires : tie.Need-first-numbers-requires
+first-numbers-requires c κs = search needs
+
+put-long-list-requires : tie.Need-put-long-list-requires
+put-long-list-requires c κs = search needs
 
 same-length-3 : tie.Need-same-length-3
 same-length-3 c = search needs
 
 returns-3 : tie.Need-returns-3
-returns-3 c = put-other _ _ _ _ _ (sym (c .before .before .before .before .before .before .before .within .ensures) ∙ c .before .before .before .before .before .before .if1 .left) (sym (c .before .before .before .before .before .within2 .ensures) ∙ c .before .before .before .before .if2 .left) (c .before .before .put-numbers .ensures)
+returns-3 c = put-first-numbers _ _ _ _ _ (sym (c .before .before .before .before .before .before .before .before .before .before .before .within .ensures) ∙ c .before .before .before .before .before .before .before .before .before .before .if1 .left) (sym (c .before .before .before .before .before .before .before .before .before .within2 .ensures) ∙ c .before .before .before .before .before .before .before .before .if2 .left) (c .before .before .before .before .before .before .before .if3 .taken) _ (c .before .before .before .first-numbers .ensures) (c .before .before .put-long-list .ensures)
+
+put-numbers-requires : tie.Need-put-numbers-requires
+put-numbers-requires c κs = search needs
+
+same-length-4 : tie.Need-same-length-4
+same-length-4 c = search needs
+
+returns-4 : tie.Need-returns-4
+returns-4 c = put-other _ _ _ _ _ (sym (c .before .before .before .before .before .before .before .before .within .ensures) ∙ c .before .before .before .before .before .before .before .if1 .left) (sym (c .before .before .before .before .before .before .within2 .ensures) ∙ c .before .before .before .before .before .if2 .left) (c .before .before .before .before .if3 .left) (c .before .before .put-numbers .ensures)
 
 pub put-field-spec : {M : Type 1} → statement M
 put-field-spec =
@@ -83,6 +98,11 @@ put-field-spec =
     put-bytes-requires
     same-length-2
     returns-2
-    put-numbers-requires
+    array-read-first-numbers
+    first-numbers-requires
+    put-long-list-requires
     same-length-3
-    returns-3)
+    returns-3
+    put-numbers-requires
+    same-length-4
+    returns-4)

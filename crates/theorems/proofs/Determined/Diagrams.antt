@@ -1,4 +1,4 @@
--- The operations on diagrams, words and positions leave one answer and one content of each lent list.
+-- The operations on diagrams, words, positions and sheets leave one answer and one content of each lent list.
 use mathlib.Core.Path.{_≡_, refl, sym, ap, _∙_}
 use mathlib.Core.Logic.{_⊎_, inl, inr, _↔_}
 use mathlib.Core.Bool.{Bool, true, false}
@@ -47,6 +47,9 @@ use Rattle.listing_ranking.specs.Promises.{CountPromise, RefusedAt, DiagramAtPr
 use Rattle.listing_plain_walk.specs.declared.Walked.{Walked}
 use Rattle.listing_plain_walk.specs.declared.Walked.the-variants as walked
 use Rattle.listing_plain_walk.specs.Promises.{PlainWalkPromise}
+use Rattle.sheet.specs.declared.SheetAnswer.{SheetAnswer}
+use Rattle.sheet.specs.declared.SheetAnswer.the-variants as sheet
+use Rattle.sheet.specs.Promises.{Divided, ShortForCells, RefusedSheet, SheetPromise}
 use Rattle.theorems.specs.Determined.{SameLists}
 
 -- ---- lists: what is written, and what is left as it was
@@ -257,13 +260,23 @@ position-once s0 s1 root (place.Number p) (place.Refused k) x y = absurd (later-
 position-once s0 s1 root (place.Refused k) (place.Number p) x y = absurd (later-not _ 31 k (y .0) (λ n. n (y .1)) x)
 position-once s0 s1 root (place.Refused j) (place.Refused k) x y = ap place.Refused (later-once _ 31 j k x y)
 
--- ---- the plain walk
+-- ---- two refusals, the second 9: a sheet of words, the plain walk
 
-walk-refused-once : {P : Type 0} {Q : Type 0} (j k : ℕ) → ((j ≡ 35) × (¬ P)) ⊎ ((j ≡ 9) × P × Q) → ((k ≡ 35) × (¬ P)) ⊎ ((k ≡ 9) × P × Q) → j ≡ k
-walk-refused-once j k (inl x) (inl y) = x .0 ∙ sym (y .0)
-walk-refused-once j k (inl x) (inr y) = absurd (x .1 (y .1))
-walk-refused-once j k (inr x) (inl y) = absurd (y .1 (x .1))
-walk-refused-once j k (inr x) (inr y) = x .0 ∙ sym (y .0)
+two-refused-once : {P : Type 0} {Q : Type 0} (first j k : ℕ) → ((j ≡ first) × (¬ P)) ⊎ ((j ≡ 9) × P × Q) → ((k ≡ first) × (¬ P)) ⊎ ((k ≡ 9) × P × Q) → j ≡ k
+two-refused-once first j k (inl x) (inl y) = x .0 ∙ sym (y .0)
+two-refused-once first j k (inl x) (inr y) = absurd (x .1 (y .1))
+two-refused-once first j k (inr x) (inl y) = absurd (y .1 (x .1))
+two-refused-once first j k (inr x) (inr y) = x .0 ∙ sym (y .0)
+
+sheet-not-refused : (s a b : List ℕ) (k : ℕ) → Divided s → ¬ ShortForCells s a b → RefusedSheet s a b k → ⊥
+sheet-not-refused s a b k d n (inl x) = x .1 d
+sheet-not-refused s a b k d n (inr x) = n (x .2)
+
+pub sheet-once : (s a b c d e f : List ℕ) (r q : SheetAnswer) → SheetPromise s a b c d r → SheetPromise s a b e f q → (r ≡ q) × (c ≡ e) × (d ≡ f)
+sheet-once s a b c d e f sheet.Answered sheet.Answered x y = (refl, x .2 ∙ sym (y .2), x .3 ∙ sym (y .3))
+sheet-once s a b c d e f sheet.Answered (sheet.Refused k) x y = absurd (sheet-not-refused s a b k (x .0) (x .1) (y .0))
+sheet-once s a b c d e f (sheet.Refused k) sheet.Answered x y = absurd (sheet-not-refused s a b k (y .0) (y .1) (x .0))
+sheet-once s a b c d e f (sheet.Refused j) (sheet.Refused k) x y = (ap sheet.Refused (two-refused-once 61 j k (x .0) (y .0)), x .1 ∙ sym (y .1), x .2 ∙ sym (y .2))
 
 walk-not-refused : (n k : ℕ) (a : List ℕ) → OneTo 9 n → 1023 < length a → ((k ≡ 35) × (¬ OneTo 9 n)) ⊎ ((k ≡ 9) × OneTo 9 n × (length a < 1024)) → ⊥
 walk-not-refused n k a N l (inl x) = x .1 N
@@ -273,4 +286,4 @@ pub plain-walk-once : (n : ℕ) (a b c : List ℕ) (r q : Walked) → PlainWalkP
 plain-walk-once n a b c (walked.Numbers m) (walked.Numbers k) x y = (ap walked.Numbers (x .2 ∙ sym (y .2)), x .3 ∙ sym (y .3))
 plain-walk-once n a b c (walked.Numbers m) (walked.Refused k) x y = absurd (walk-not-refused n k a (x .0) (x .1) (y .0))
 plain-walk-once n a b c (walked.Refused k) (walked.Numbers m) x y = absurd (walk-not-refused n k a (y .0) (y .1) (x .0))
-plain-walk-once n a b c (walked.Refused j) (walked.Refused k) x y = (ap walked.Refused (walk-refused-once j k (x .0) (y .0)), x .1 ∙ sym (y .1))
+plain-walk-once n a b c (walked.Refused j) (walked.Refused k) x y = (ap walked.Refused (two-refused-once 35 j k (x .0) (y .0)), x .1 ∙ sym (y .1))

@@ -167,6 +167,24 @@ fn the_end_of_all_sizes() {
     }
 }
 
+/// Two cells, of which one is refused: the sheet cut and drawn out, and each list in turn short by one.
+#[test]
+fn refused_sheets() {
+    let mut sheet = [0; 105];
+    sheet[..4].copy_from_slice(&[3, 1, 4, 0]);
+    let calls = [(103, [2, 2], 61), (105, [2, 2], 61), (51, [0, 0], 61), (53, [0, 0], 61), (104, [1, 2], 9), (104, [2, 1], 9), (52, [0, 0], 9)];
+    for (length, rooms, number) in calls {
+        let (mut refusals, mut positions) = ([MARK; 2], [WIDE; 2]);
+        assert_eq!(sheet_positions(&sheet[..length], &mut refusals[..rooms[0]], &mut positions[..rooms[1]]), number);
+        assert_eq!((refusals, positions), ([MARK; 2], [WIDE; 2]));
+    }
+    let (mut refusals, mut positions) = ([MARK; 3], [WIDE; 3]);
+    assert_eq!((sheet_positions(&[], &mut [], &mut []), sheet_positions(&[], &mut refusals, &mut positions)), (0, 0));
+    assert_eq!((refusals, positions), ([MARK; 3], [WIDE; 3]));
+    assert_eq!(sheet_positions(&sheet[..104], &mut refusals, &mut positions), 0);
+    assert_eq!((refusals, positions), ([0, 21, MARK], [4, 0, WIDE]));
+}
+
 #[test]
 fn refused_book_calls() {
     let mut held = book();
