@@ -1,9 +1,9 @@
 -- Laws of answering a cell: from what read word answers of its word to its pair, and the form of the cell.
 use mathlib.Core.Path.{_≡_, refl, sym, ap, _∙_}
-use mathlib.Core.Bool.{Bool, true, false}
-use mathlib.Core.List.{List, [], _∷_}
+use mathlib.Core.Bool.{true, false}
+use mathlib.Core.List.{List}
 use mathlib.Core.Option.{some}
-use Prim.Native.Nat.{ℕ, suc, _+_, _-_, _≤_, _<_}
+use Prim.Native.Nat.{ℕ, _+_, _-_, _≤_, _<_}
 use native.Mathlib.Numerals.{add-one}
 use native.Mathlib.Omega.{arith}
 use lib.ListN.{length, getD, take, drop, length-drop, drop-of-length-le}
@@ -16,10 +16,10 @@ use Rattle.words_reading.specs.declared.Reading.the-variants as reading
 use Rattle.words_reading.specs.Read.{Read, refused, built, read}
 use Rattle.words_reading.proofs.Spelling.{read-spell}
 use Rattle.words_reading_size.specs.Counting.{SizePromise}
-use Rattle.labelling.specs.Labelling.{wordOf}
 use Rattle.labelling.proofs.OfLists.{spelled-wordOf}
 use Rattle.listing.specs.Position.{position}
-use Rattle.sheet.specs.Cells.{wordIn, tailOf, blank, refusedWith, foundAt, located, cell}
+use Rattle.sheet.specs.Cells.{tailOf, blank, refusedWith, foundAt, located, cell}
+use Rattle.sheet.proofs.Cells.{cell-long, cell-marked, cell-read}
 
 -- ---- from the answer of reading to the pair
 
@@ -75,12 +75,11 @@ blank-next l i h e z = rw add-one (e ∙ ap blank (drop-cons l i 0 h) ∙ rw (eq
 pub blank-all : (l : List ℕ) (i : ℕ) → blank l ≡ blank (drop i l) → length l ≤ i → true ≡ blank l
 blank-all l i e h = sym (e ∙ ap blank (drop-of-length-le l h))
 
--- ---- the form of a cell
+-- ---- the form of a cell, as the code cuts it
 
 module _ (c : List ℕ) (m : ℕ) (e : m ≡ at c 1) where
-  pub cell-too-long : 51 < m → refusedWith 61 ≡ cell c
-  unfolding cell
-  cell-too-long h = rw (le-false (at c 1) 51 (omega (arith, e))) refl
+  pub answered-long : 51 < m → refusedWith 61 ≡ cell c
+  answered-long h = sym (cell-long c (omega (arith, e)))
 
   module _ (h : m ≤ 51) (l : length c ≡ 52) where
     tail-is : take (length c - (m + 1)) (drop (m + 1) c) ≡ tailOf c
@@ -92,12 +91,10 @@ module _ (c : List ℕ) (m : ℕ) (e : m ≡ at c 1) where
         up : 1 + m ≡ m + 1
         up = omega arith
 
-    pub cell-marked : false ≡ blank (take (length c - (m + 1)) (drop (m + 1) c)) → refusedWith 61 ≡ cell c
-    unfolding cell
-    cell-marked b = rw (le-true (at c 1) 51 (omega (arith, e)), sym (b ∙ ap blank tail-is)) refl
+    pub answered-marked : false ≡ blank (take (length c - (m + 1)) (drop (m + 1) c)) → refusedWith 61 ≡ cell c
+    answered-marked b = sym (cell-marked c (sym (b ∙ ap blank tail-is)))
 
-    pub cell-read : true ≡ blank (take (length c - (m + 1)) (drop (m + 1) c)) → located (read (take (m + 1 - 1) (drop 1 c))) ≡ cell c
-    unfolding cell
-    cell-read b =
-        let z : m + 1 - 1 ≡ m = omega arith in
-        rw (le-true (at c 1) 51 (omega (arith, e)), sym (b ∙ ap blank tail-is), z, e) refl
+    pub answered-read : true ≡ blank (take (length c - (m + 1)) (drop (m + 1) c)) → located (read (take (m + 1 - 1) (drop 1 c))) ≡ cell c
+    answered-read b =
+        let z : m + 1 - 1 ≡ at c 1 = omega (arith, e) in
+        rw z (sym (cell-read c (omega (arith, e)) (sym (b ∙ ap blank tail-is))))

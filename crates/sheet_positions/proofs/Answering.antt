@@ -2,7 +2,7 @@
 --
 --   Begun s a b start i c d    the first i cells of the sheet s, which end before `start`, are answered: the lists a and b have become c and d
 use mathlib.Core.Path.{_≡_, refl, sym, ap, _∙_}
-use mathlib.Core.Logic.{_⊎_, _≢_, inl, inr}
+use mathlib.Core.Logic.{_≢_, inl, inr}
 use mathlib.Core.List.{List, [], _∷_, _++_, map, map-append}
 use Prim.Native.Nat.{ℕ, suc, _+_, _-_, _*_, _/_, _%_, _≤_, _<_}
 use native.Mathlib.Nat.{div-add-mod', mul-mod-left}
@@ -10,7 +10,6 @@ use native.Mathlib.Omega.{arith}
 use lib.ListN.{length, take, drop, set, length-map, length-set}
 use Rattle.lists.specs.Overwriting.{overwrite}
 use Rattle.lists.proofs.Overwriting.{over-one}
-use Rattle.lists.proofs.Tests.{lt?}
 use Rattle.sheet.specs.declared.CellAnswer.{CellAnswer}
 use Rattle.sheet.specs.Cells.{inCells, cells, cell, refusals, positions}
 use Rattle.sheet.specs.Promises.{Divided, ShortForCells}
@@ -52,11 +51,7 @@ module _ (s a b : List ℕ) where
     long = (enough (length a) (λ h. n (inl h)), enough (length b) (λ h. n (inr h)))
       where
         enough : (m : ℕ) → ¬ (m < length (cells s)) → D .0 ≤ m
-        enough m k = from (lt? m (length (cells s)))
-          where
-            from : (m < length (cells s)) ⊎ (length (cells s) ≤ m) → D .0 ≤ m
-            from (inl h) = absurd (k h)
-            from (inr h) = let e = cells-count s (D .0) (D .1) in omega arith
+        enough m k = let e = cells-count s (D .0) (D .1) in omega arith
 
     -- a cell begins before the end, so the whole of it is there, and a place of both lists
     pub cell-within : (start i : ℕ) (c d : List ℕ) → Begun s a b start i c d → start < length s → (start + 52 ≤ length s) × (i < length a) × (i < length b)

@@ -30,7 +30,7 @@ use Rattle.sheet.specs.declared.SheetAnswer.{SheetAnswer}
 use Rattle.sheet.specs.declared.SheetAnswer.the-variants as sheet
 use Rattle.sheet.specs.Cells.{inCells, cells, wordIn, tailOf, blank, refusedWith, foundAt, located, cell, answers, refusals, positions}
 use Rattle.sheet.specs.Promises.{SheetPromise}
-use Rattle.sheet.proofs.Cells.{cells-are}
+use Rattle.sheet.proofs.Cells.{cells-are, either-way, cell-long, cell-marked, cell-read}
 use Rattle.sheet.proofs.ReadCells.{ShortRefusals, short-above, read-short-size, read-short-refusals}
 use Rattle.theorems.specs.Demand2.{Outputs, front, Reads, ReadHolds}
 use Rattle.theorems.specs.Sheets.{Wide, joined, CellsHold, Refusals, CallsAnswer, CellHolds, SheetCall, Answers, pairAt, cellAt, SheetsHold}
@@ -66,11 +66,7 @@ cells-hold = record {
   same = λ cs a. cells-are (joined cs) (length cs) (joined-length cs a) ∙ in-joined cs a;
 }
 
--- ---- a cell that is refused 61
-
-either-way : {A : Type 0} (b : Bool) (x : A) → cond b x x ≡ x
-either-way true x = refl
-either-way false x = refl
+-- ---- the tail of a cell
 
 not-blank : (l : List ℕ) (x : ℕ) → Has x l → x ≢ 0 → blank l ≡ false
 not-blank [] x h n = absurd h
@@ -81,19 +77,7 @@ all-blank : (l : List ℕ) → All (λ (x : ℕ). x ≡ 0) l → blank l ≡ tru
 all-blank [] a = refl
 all-blank (y ∷ l) a = rw (eqb-eq y 0 (a .0)) (all-blank l (a .1))
 
-too-long : (c : List ℕ) → 51 < at c 1 → cell c ≡ refusedWith 61
-unfolding cell
-too-long c h = rw (le-false (at c 1) 51 h)
-
-in-tail : (c : List ℕ) (x : ℕ) → Has x (tailOf c) → x ≢ 0 → cell c ≡ refusedWith 61
-unfolding cell
-in-tail c x h n = rw (not-blank (tailOf c) x h n) (either-way (leb (at c 1) 51) (refusedWith 61))
-
 -- ---- a cell whose word is read
-
-cell-located : (c : List ℕ) → at c 1 ≤ 51 → All (λ (x : ℕ). x ≡ 0) (tailOf c) → cell c ≡ located (read (wordIn c))
-unfolding cell
-cell-located c h a = rw (le-true (at c 1) 51 h, all-blank (tailOf c) a)
 
 -- position of a diagram that check accepts
 position-answers : (F : Pair) → Accepts (F .black) (F .white) 1 → (q : Place) → PositionPromise (F .black) (F .white) 1 q
@@ -186,9 +170,9 @@ fine-cell c =
 
 cell-holds : (c : List ℕ) → CellHolds c
 cell-holds c = record {
-  too-long = too-long c;
-  in-tail = in-tail c;
-  as-calls = λ h a O r G n. rw (cell-located c h a) (calls-answer (wordIn c) O r G n);
+  too-long = cell-long c;
+  in-tail = λ x h n. cell-marked c (not-blank (tailOf c) x h n);
+  as-calls = λ h a O r G n. rw (cell-read c h (all-blank (tailOf c) a)) (calls-answer (wordIn c) O r G n);
   long-enough = λ h O r h0 h1 G. room-enough (wordIn c) (word-fits c h) O r h0 h1 G;
   numbers = fine-cell c .number;
   refused-at-0 = fine-cell c .at-0;
@@ -226,11 +210,7 @@ module _ (s a b : List ℕ) (f : CellAnswer → ℕ) (e : b ≡ overwrite (map f
   field-rest i h = ap (λ (l : List ℕ). getD l i 0) e ∙ over-behind (map f (answers s)) a i (rw field-length h)
 
   field-keeps : ¬ (length a < length (cells s)) → length b ≡ length a
-  field-keeps n = ap length e ∙ over-length (map f (answers s)) a (rw field-length (go (lt? (length a) (length (cells s)))))
-    where
-      go : (length a < length (cells s)) ⊎ (length (cells s) ≤ length a) → length (cells s) ≤ length a
-      go (inl h) = absurd (n h)
-      go (inr h) = h
+  field-keeps n = ap length e ∙ over-length (map f (answers s)) a (rw field-length (omega arith))
 
 stands : (C : SheetCall) → Answers C → (i : ℕ) → i < length (cells (C .numbers)) → pairAt C i ≡ cell (cellAt C i)
 stands C A i h =

@@ -1,6 +1,6 @@
 -- `answer_cell` answers 61 for a length above 51 and for a tail with a number in it, and else what locating the word answers.
 use mathlib.Core.Path.{sym, _∙_}
-use Rattle.sheet_cell.proofs.Locating.{cell-too-long, cell-marked, cell-read}
+use Rattle.sheet_cell.proofs.Locating.{answered-long, answered-marked, answered-read}
 use borrow.Author.Needs.{needs}
 use Rattle.sheet_cell.proofs.answer_cell.Statement.{statement}
 use Rattle.sheet_cell.proofs.answer_cell.Tie as tie
@@ -18,7 +18,7 @@ refused-requires : tie.Need-refused-requires
 refused-requires c κs = search needs
 
 returns : tie.Need-returns
-returns c = c .refused .ensures ∙ cell-too-long (c .before .before .before .before .before .args .numbers .now) _ (c .before .before .to-index .ensures) (c .before .if1 .taken)
+returns c = c .refused .ensures ∙ answered-long (c .before .before .before .before .before .args .numbers .now) _ (c .before .before .to-index .ensures) (c .before .if1 .taken)
 
 add-end : tie.Need-add-end
 add-end c = search needs
@@ -52,14 +52,14 @@ locate-requires c κs = search needs
 
 returns-2 : tie.Need-returns-2
 returns-2 c =
-    c .locate .ensures ∙ cell-read (c .before .before .before .before .before .before .before .before .before .args .numbers .now) _ (c .before .before .before .before .before .before .to-index .ensures) (c .before .before .before .before .before .if1 .left) (c .before .before .before .before .before .before .before .before .before .pre) (sym (c .before .before .if2 .taken) ∙ c .before .before .before .is-blank .ensures)
+    c .locate .ensures ∙ answered-read (c .before .before .before .before .before .before .before .before .before .args .numbers .now) _ (c .before .before .before .before .before .before .to-index .ensures) (c .before .before .before .before .before .if1 .left) (c .before .before .before .before .before .before .before .before .before .pre) (sym (c .before .before .if2 .taken) ∙ c .before .before .before .is-blank .ensures)
 
 refused-requires-2 : tie.Need-refused-requires-2
 refused-requires-2 c κs = search needs
 
 returns-3 : tie.Need-returns-3
 returns-3 c =
-    c .refused2 .ensures ∙ cell-marked (c .before .before .before .before .before .before .before .before .args .numbers .now) _ (c .before .before .before .before .before .to-index .ensures) (c .before .before .before .before .if1 .left) (c .before .before .before .before .before .before .before .before .pre) (sym (c .before .if2 .left) ∙ c .before .before .is-blank .ensures)
+    c .refused2 .ensures ∙ answered-marked (c .before .before .before .before .before .before .before .before .args .numbers .now) _ (c .before .before .before .before .before .to-index .ensures) (c .before .before .before .before .if1 .left) (c .before .before .before .before .before .before .before .before .pre) (sym (c .before .if2 .left) ∙ c .before .before .is-blank .ensures)
 
 pub answer-cell-spec : {M : Type 1} → statement M
 answer-cell-spec =
