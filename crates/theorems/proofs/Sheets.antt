@@ -2,25 +2,29 @@
 use mathlib.Core.Path.{_≡_, refl, sym, ap, _∙_}
 use mathlib.Core.Logic.{_⊎_, inl, inr, _≢_}
 use mathlib.Core.Bool.{Bool, true, false, cond}
+use mathlib.Core.Option.{some}
 use mathlib.Core.List.{List, [], _∷_, map}
 use Prim.Native.Nat.{ℕ, zero, suc, _+_, _-_, _*_, _≤_, _<_}
 use native.Mathlib.Nat.{not-suc-le-zero, le-of-suc-le-suc}
 use native.Mathlib.Omega.{arith}
 use lib.Dec.{eqb, leb}
-use lib.ListN.{length, getD, drop, length-append, length-take, length-drop, length-map, take-append-drop, List·getD-append}
+use lib.ListN.{length, getD, drop, replicate, length-append, length-take, length-drop, length-map, length-replicate, take-append-drop, List·getD-append}
 use lib.Seq.{length-take-le, take-at, drop-at, getD-append-add, getD-drop}
 use Rattle.lists.specs.Lists.{at, All, Has}
+use Rattle.lists.specs.Ranges.{OneTo}
 use Rattle.lists.specs.Overwriting.{overwrite}
 use Rattle.lists.proofs.Tests.{eqb-eq, eqb-ne, cond-all, lt?, le-true, leb-true, le-false}
 use Rattle.lists.proofs.Lists.{snoc-has, length-0}
 use Rattle.lists.proofs.Overwriting.{over-length}
 use Rattle.diagrams.specs.Check.{Accepts}
-use Rattle.words.specs.Word.{Pair}
+use Rattle.words.specs.Word.{Pair, Spells, spell}
+use Rattle.words.proofs.Shape.{spells-word, word-length}
 use Rattle.words_reading.specs.declared.Reading.{Reading}
 use Rattle.words_reading.specs.declared.Reading.the-variants as reading
 use Rattle.words_reading.specs.Read.{Read, refused, built, read, withRoom, readAnswer, ReadPromise}
 use Rattle.labelling.specs.Labelling.{wordOf}
-use Rattle.listing.specs.Position.{position}
+use Rattle.listing.specs.Listing.{count}
+use Rattle.listing.specs.Position.{wordAt, position}
 use Rattle.listing_ranking.specs.declared.Place.{Place}
 use Rattle.listing_ranking.specs.declared.Place.the-variants as place
 use Rattle.listing_ranking.specs.Answers.{located-number, located-position}
@@ -32,8 +36,8 @@ use Rattle.sheet.specs.Cells.{inCells, cells, wordIn, tailOf, blank, refusedWit
 use Rattle.sheet.specs.Promises.{SheetPromise}
 use Rattle.sheet.proofs.Cells.{cells-are, either-way, cell-long, cell-marked, cell-read}
 use Rattle.sheet.proofs.ReadCells.{ShortRefusals, short-above, read-short-size, read-short-refusals}
-use Rattle.theorems.specs.Demand2.{Outputs, front, Reads, ReadHolds}
-use Rattle.theorems.specs.Sheets.{Wide, joined, CellsHold, Refusals, CallsAnswer, CellHolds, SheetCall, Answers, pairAt, cellAt, SheetsHold}
+use Rattle.theorems.specs.Demand2.{LabelsBack, Outputs, front, Reads, ReadHolds}
+use Rattle.theorems.specs.Sheets.{Wide, joined, CellsHold, cellOf, Refusals, CallsAnswer, StandsAt, CellHolds, SheetCall, Answers, pairAt, cellAt, SheetsHold}
 use Rattle.theorems.proofs.Demand2.{demand-2, not-both}
 
 -- ---- the cells of a sheet
@@ -134,39 +138,52 @@ word-fits c h = rw (length-take (at c 1) (drop 1 c)) (omega arith)
 
 -- ---- the numbers of a cell's answer
 
-record Fine (a : CellAnswer) : Type 0 where
+-- of a cell with the word w
+record Fine (w : List ℕ) (a : CellAnswer) : Type 0 where
   number : Refusals (a .refusal)
   at-0 : a .refusal ≢ 0 → a .position ≡ 0
-  placed : a .refusal ≡ 0 → 1 ≤ a .position
+  placed : a .refusal ≡ 0 → StandsAt (a .position) w
 
-fine-61 : Fine (refusedWith 61)
-fine-61 = record { number = inr (inl refl); at-0 = λ n. refl; placed = λ e. absurd (omega arith) }
+fine-61 : (w : List ℕ) → Fine w (refusedWith 61)
+fine-61 w = record { number = inr (inl refl); at-0 = λ n. refl; placed = λ e. absurd (omega arith) }
 
-fine-31 : Fine (refusedWith 31)
-fine-31 = record { number = inr (inr (inr (inr (inr (inr (inr (inl refl))))))); at-0 = λ n. refl; placed = λ e. absurd (omega arith) }
+fine-31 : (w : List ℕ) → Fine w (refusedWith 31)
+fine-31 w = record { number = inr (inr (inr (inr (inr (inr (inr (inl refl))))))); at-0 = λ n. refl; placed = λ e. absurd (omega arith) }
 
-fine-read : (k : ℕ) → ShortRefusals k → Fine (refusedWith k)
-fine-read k h =
+fine-read : (w : List ℕ) (k : ℕ) → ShortRefusals k → Fine w (refusedWith k)
+fine-read w k h =
     let b = short-above k h in
     record { number = inr (inr (snoc-has k (21 ∷ 26 ∷ 22 ∷ 23 ∷ 25 ∷ []) 31 (inl h))); at-0 = λ n. refl; placed = λ e. absurd (omega arith) }
 
-fine-found : (n : ℕ) (w : List ℕ) → Fine (foundAt (position n w))
-unfolding position
-fine-found n w = record { number = inl refl; at-0 = λ k. absurd (k refl); placed = λ e. omega arith }
+-- the word of the diagram that was read is the word that was read
+fine-found : (w : List ℕ) (D : Pair) → read w ≡ built D → length (D .black) ≤ 50 → Fine w (foundAt (position (length (D .black)) (wordOf (D .black) (D .white) 1)))
+fine-found w D e h = record { number = inl refl; at-0 = λ k. absurd (k refl); placed = λ z. rw (B .word) there }
+  where
+    spelt : spell w ≡ some D
+    spelt = demand-2 .reads-exactly w D .0 e .0
 
-fine-located : (w : List ℕ) → length w ≤ 51 → Fine (located (read w))
+    B : LabelsBack w D
+    B = demand-2 .labels-back w D spelt
+
+    there : StandsAt (position (length (D .black)) w) w
+    there =
+        let a = B .accepted (omega arith) .size in
+        let p = demand-2 .listing (length (D .black)) (omega arith) .word-at w record { pair = D; spelt = spelt; sized = refl } in
+        (length (D .black), (omega arith, h), p .0, p .1)
+
+fine-located : (w : List ℕ) → length w ≤ 51 → Fine w (located (read w))
 fine-located w l = go (read w) refl
   where
-    go : (q : Read) → read w ≡ q → Fine (located q)
-    go (refused k) e = fine-read k (read-short-refusals w k e l)
-    go (built D) e = cond-all Fine (leb (length (D .black)) 50) _ _ (λ h. fine-found (length (D .black)) (wordOf (D .black) (D .white) 1)) (λ h. fine-31)
+    go : (q : Read) → read w ≡ q → Fine w (located q)
+    go (refused k) e = fine-read w k (read-short-refusals w k e l)
+    go (built D) e = cond-all (Fine w) (leb (length (D .black)) 50) _ _ (λ h. fine-found w D e (leb-true (length (D .black)) 50 h)) (λ h. fine-31 w)
 
-fine-cell : (c : List ℕ) → Fine (cell c)
+fine-cell : (c : List ℕ) → Fine (wordIn c) (cell c)
 unfolding cell
 fine-cell c =
-    cond-all Fine (leb (at c 1) 51) _ _
-    (λ h. cond-all Fine (blank (tailOf c)) _ _ (λ b. fine-located (wordIn c) (word-fits c (leb-true (at c 1) 51 h))) (λ b. fine-61))
-    (λ h. fine-61)
+    cond-all (Fine (wordIn c)) (leb (at c 1) 51) _ _
+    (λ h. cond-all (Fine (wordIn c)) (blank (tailOf c)) _ _ (λ b. fine-located (wordIn c) (word-fits c (leb-true (at c 1) 51 h))) (λ b. fine-61 (wordIn c)))
+    (λ h. fine-61 (wordIn c))
 
 cell-holds : (c : List ℕ) → CellHolds c
 cell-holds c = record {
@@ -178,6 +195,41 @@ cell-holds c = record {
   refused-at-0 = fine-cell c .at-0;
   placed = fine-cell c .placed;
 }
+
+-- ---- the cell of a listed word
+
+zeros-blank : (k : ℕ) → blank (replicate k 0) ≡ true
+zeros-blank zero = refl
+zeros-blank (suc k) = zeros-blank k
+
+cell-of : (w : List ℕ) → length w ≤ 51 → Wide (cellOf w) × (cell (cellOf w) ≡ located (read w))
+cell-of w l = (wide, cell-read (cellOf w) l (ap blank tail ∙ zeros-blank (51 - length w)) ∙ ap (λ (v : List ℕ). located (read v)) word)
+  where
+    wide : Wide (cellOf w)
+    wide = rw (length-append, length-replicate) (omega arith)
+
+    word : wordIn (cellOf w) ≡ w
+    word = take-at w (replicate (51 - length w) 0) (length w) refl
+
+    tail : tailOf (cellOf w) ≡ replicate (51 - length w) 0
+    tail = drop-at w (replicate (51 - length w) 0) (length w) refl
+
+located-spelled : (n : ℕ) (w : List ℕ) → n ≤ 50 → (S : Spells n w) → located (read w) ≡ foundAt (position n w)
+located-spelled n w h S =
+    let z = S .sized in
+    rw (
+      demand-2 .reads-exactly w (S .pair) .1 (S .spelt, omega arith),
+      le-true (length (S .pair .black)) 50 (omega arith),
+      demand-2 .labels-back w (S .pair) (S .spelt) .word,
+      S .sized,
+    ) refl
+
+found : (n p : ℕ) → n ≤ 50 → OneTo (count n) p → Wide (cellOf (wordAt n p)) × (cell (cellOf (wordAt n p)) ≡ foundAt p)
+found n p h o =
+    let q = demand-2 .listing n (omega arith) .position-of p o in
+    let l = word-length n (wordAt n p) (spells-word n (wordAt n p) (q .0)) in
+    let c = cell-of (wordAt n p) (omega arith) in
+    (c .0, c .1 ∙ located-spelled n (wordAt n p) h (q .0) ∙ ap foundAt (q .1))
 
 -- ---- what a call leaves
 
@@ -243,6 +295,7 @@ pub sheets-hold : SheetsHold
 sheets-hold = record {
   cells-hold = cells-hold;
   each-cell = cell-holds;
+  found = λ n p s o. found n p (s .1) o;
   stands = stands;
   rest = rest;
   lengths = lengths;

@@ -8,17 +8,18 @@
 --   Line p ..                  line p of the census of size 3: its word, letters, s0, s1, invariants and keep mark (1: K, 0: a hyphen)
 --   RelabelsTo s0 s1 root ..   check accepts the diagram, and it has that word, those letters and that characteristic labelling
 --   Share n k j p q            share j of k holds the positions p to q of size n
---   inCell w x                 the cell of a sheet with the word w and, as its last number, x
+--   four-cells                 a sheet of four cells, one of them damaged
 --   Table, Limits              01's table; its edges
 -- and from elsewhere: listing, count, wordAt, diagramAt (listing); letters (words, Letters); e2, .., level (invariants_cycles); MarkOf (run_blocks, Rows);
 -- wordOf, characteristic (labelling); Accepts, CheckPromise (diagrams, Check); readAnswer (words_reading, Read); first, last, ShareHolds (book);
--- CountPromise, DiagramAtPromise (listing_ranking, Promises); total, visits (upto); opened, claim-book, commit-answer (book, Calls).
+-- CountPromise, DiagramAtPromise (listing_ranking, Promises); total, visits (upto); refusals, positions (sheet, Cells); cellOf, joined (Sheets); opened, claim-book,
+-- commit-answer (book, Calls).
 use mathlib.Core.Path.{_≡_}
-use mathlib.Core.List.{List, [], _∷_, _++_, map}
+use mathlib.Core.List.{List, [], _∷_, map}
 use mathlib.Core.Option.{some}
-use Prim.Native.Nat.{ℕ, _-_}
+use Prim.Native.Nat.{ℕ}
 use lib.IntN.{ℤ, pos}
-use lib.ListN.{length, replicate}
+use lib.ListN.{replicate}
 use Rattle.lists.specs.Lists.{at}
 use Rattle.lists.specs.Ranges.{OneTo}
 use Rattle.diagrams.specs.Check.{Accepts, CheckPromise}
@@ -44,6 +45,7 @@ use Rattle.book.specs.declared.types.Committing.the-variants as committing
 use Rattle.book.specs.Shares.{first, last}
 use Rattle.book.specs.Holding.{ShareHolds}
 use Rattle.book.specs.Calls.{opened, claim-book, commit-answer}
+use Rattle.theorems.specs.Sheets.{joined, cellOf}
 
 -- ---- event letters in ASCII
 
@@ -111,9 +113,9 @@ pub record Share (n k j p q : ℕ) : Type 0 where
   pub first-is : first n k j ≡ p
   pub last-is : last n k j ≡ q
 
--- a word in a cell: its length, its items, and then zeros up to the last number, which is x
-abbrev pub inCell : List ℕ → ℕ → List ℕ
-inCell w x = length w ∷ (w ++ (replicate (50 - length w) 0 ++ (x ∷ [])))
+-- the cells of TJ1W, TW and UB, and that of UB with a number behind the word
+abbrev pub four-cells : List ℕ
+four-cells = joined (cellOf (1 ∷ 4 ∷ 0 ∷ []) ∷ cellOf (1 ∷ 0 ∷ []) ∷ cellOf (0 ∷ 2 ∷ []) ∷ (2 ∷ 0 ∷ 2 ∷ 1 ∷ replicate 48 0) ∷ [])
 
 -- ---- the table
 
@@ -152,8 +154,7 @@ pub record Table : Type 0 where
   -- and request U1's example: the sizes 1 to 3 together are 6 diagrams and, at the last of them, 6 visits
   pub upto-3 : (upto.total 3 ≡ 6) × (visits 3 6 ≡ 6)
   -- and a sheet (request U2) of four cells: TJ1W is (f), TW is (j), UB is (b), and UB with a number in its tail is 61
-  pub sheet-4 : (sheet.refusals (inCell (1 ∷ 4 ∷ 0 ∷ []) 0 ++ (inCell (1 ∷ 0 ∷ []) 0 ++ (inCell (0 ∷ 2 ∷ []) 0 ++ inCell (0 ∷ 2 ∷ []) 1))) ≡ 0 ∷ 25 ∷ 0 ∷ 61 ∷ [])
-      × (sheet.positions (inCell (1 ∷ 4 ∷ 0 ∷ []) 0 ++ (inCell (1 ∷ 0 ∷ []) 0 ++ (inCell (0 ∷ 2 ∷ []) 0 ++ inCell (0 ∷ 2 ∷ []) 1))) ≡ 4 ∷ 0 ∷ 1 ∷ 0 ∷ [])
+  pub sheet-4 : (sheet.refusals four-cells ≡ 0 ∷ 25 ∷ 0 ∷ 61 ∷ []) × (sheet.positions four-cells ≡ 4 ∷ 0 ∷ 1 ∷ 0 ∷ [])
 
 -- ---- the edges: the last that is taken and the first that is refused
 
