@@ -1,13 +1,13 @@
-/* The diagrams of the sizes 1 to 3 come in a single list, and a sheet of words gets its positions in one call. Then two sessions divide the 22 rooted
- * diagrams of size 6, of which the first rows are printed. One of them falls asleep, its ticket lapses, the other one takes its share over, and what
- * the sleeper then says too late is refused. In the end the report says complete, with 22 committed. */
+/* The diagrams of the sizes 1 to 3 come in a single list, a sheet of words gets its positions in one call, and a diagram its level. Then two
+ * sessions divide the 22 rooted diagrams of size 6, of which the first rows are printed. One of them falls asleep, its ticket lapses, the other one
+ * takes its share over, and what the sleeper then says too late is refused. In the end the report says complete, with 22 committed. */
 #include "kaldvemir.h"
 
 #include <inttypes.h>
 #include <stdio.h>
 #include <stdlib.h>
 
-enum { BOUND = 3, UPTO_COUNT = 6, UPTO_VISITS = 6, CELLS = 4, SIZE = 6, SHARES = 3, COUNT = 22, LEASE = 10, ROWS = 3 };
+enum { BOUND = 3, UPTO_COUNT = 6, UPTO_VISITS = 6, CELLS = 4, EDGES = 7, LEVEL = 12, SIZE = 6, SHARES = 3, COUNT = 22, LEASE = 10, ROWS = 3 };
 
 static kaldvemir_book book;
 static uint64_t tick;
@@ -131,12 +131,34 @@ static void late_commit(session *s, uint16_t refusal, const char *why) {
     printf("tick %2" PRIu64 "  %s commits %2" PRIu64 " too late: refused %u, %s\n", tick, s->name, s->position, (unsigned)refusal, why);
 }
 
+/* A pointer to a level of 16 bits, as the level once was, is not taken. */
+_Static_assert(_Generic(&kaldvemir_invariants,
+                        uint16_t (*)(const uint16_t *, size_t, const uint16_t *, size_t, uint64_t, uint16_t *, uint16_t *, uint16_t *,
+                                     int32_t *, uint64_t *): 1,
+                        default: 0),
+               "the level is a number of 64 bits");
+
+/* The level of a diagram with cycles of 3 and of 4 edges. */
+static void print_level(void) {
+    static const uint16_t s0[EDGES] = {2, 3, 1, 5, 6, 4, 7}, s1[EDGES] = {1, 4, 5, 2, 3, 7, 6};
+    uint16_t e2, e3, c;
+    int32_t t;
+    uint64_t level;
+    expect("invariants", kaldvemir_invariants(s0, EDGES, s1, EDGES, 1, &e2, &e3, &c, &t, &level), 0);
+    printf("a diagram of %d edges, %u cycles: level %" PRIu64 "\n", EDGES, (unsigned)c, level);
+    if (level != LEVEL) {
+        fprintf(stderr, "not level %d\n", LEVEL);
+        exit(EXIT_FAILURE);
+    }
+}
+
 int main(void) {
     session ada = {"Ada", 0, 0, 0}, ben = {"Ben", 0, 0, 0};
     uint64_t committed, complete;
 
     print_upto();
     print_sheet();
+    print_level();
     print_rows();
     expect("open", kaldvemir_open(&book, SIZE, SHARES), 0);
     claim_share(&ada, 1);

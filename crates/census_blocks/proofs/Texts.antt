@@ -13,12 +13,12 @@ use Rattle.lists.specs.Ranges.{OneTo}
 use Rattle.lists.specs.Overwriting.{overwrite, overwriteFrom}
 use Rattle.lists.proofs.Overwriting.{over-length, over-more}
 use Rattle.diagrams.specs.Check.{Accepts, Refuses}
-use Rattle.diagrams.specs.declared.Verdict.the-variants as verdict
-use Rattle.diagrams.proofs.Checks.{checked-once}
+use Rattle.diagrams.proofs.Checks.{not-both}
 use Rattle.words.specs.Shape.{Word}
 use Rattle.words.specs.Word.{Pair}
 use Rattle.labelling.proofs.OfLists.{spelled-accepted}
 use Rattle.invariants.specs.Promises.{Invariants, InvariantsPromise}
+use Rattle.invariants.proofs.SmallLevels.{small-level}
 use Rattle.invariants.specs.declared.Measured.{Measured}
 use Rattle.invariants.specs.declared.Measured.the-variants.{Known, Refused}
 use Rattle.invariants.specs.declared.Numbers.{Numbers}
@@ -61,9 +61,11 @@ rows-fit n p (suc k) s h =
 
 -- ---- one row of a block
 
-known : (s0 s1 : List ℕ) (a : Measured) → Accepts s0 s1 1 → InvariantsPromise s0 s1 1 a → (r : Numbers) × (a ≡ Known r) × Invariants s0 s1 r
-known s0 s1 (Known r) A P = (r, refl, P .1)
-known s0 s1 (Refused k) A P = let e = checked-once s0 s1 1 verdict.Accepted (verdict.Refused k) A P in let z : _≡_ {A = ℕ} 0 1 = cc in absurd (omega arith)
+-- a diagram of so few edges is answered its invariants: neither check nor its level refuses it
+known : (s0 s1 : List ℕ) (a : Measured) → Accepts s0 s1 1 → length s0 < 64 → InvariantsPromise s0 s1 1 a → (r : Numbers) × (a ≡ Known r) × Invariants s0 s1 r
+known s0 s1 (Known r) A s P = (r, refl, P .2)
+known s0 s1 (Refused k) A s (inl R) = absurd (not-both s0 s1 1 k A R)
+known s0 s1 (Refused k) A s (inr O) = absurd (small-level A s (O .2))
 
 module _ {n p k : ℕ} {b0 b1 bw bl : List ℕ} (H : BlockHeld n p k b0 b1 bw bl) where
   items-before : (i : ℕ) → i ≤ k → itemsBefore bl i ≡ length (flatWords n p i)
@@ -113,9 +115,10 @@ module _ {n p k : ℕ} {b0 b1 bw bl : List ℕ} (H : BlockHeld n p k b0 b1 bw bl
     row-pieces a m P k =
         let D = diagramAt n (suc (p + i)) in
         let P′ : InvariantsPromise (D .black) (D .white) 1 a = rw (black-part, white-part) at P in
-        let r = known (D .black) (D .white) a accepted P′ in
-        let e : p + suc i ≡ suc (p + i) = omega arith in
         let s = H .sized in
+        let l = sized-black in
+        let r = known (D .black) (D .white) a accepted (omega arith) P′ in
+        let e : p + suc i ≡ suc (p + i) = omega arith in
         rw (black-part, white-part, word-part, r .1, e) (line-row n (suc (p + i)) (r .0) m word-in sized-black sized-white (s .0) (r .2) k)
 
 -- ---- the rows of a block

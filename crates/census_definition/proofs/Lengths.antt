@@ -5,12 +5,14 @@ use mathlib.Core.Bool.{Bool, true, false, cond}
 use mathlib.Core.List.{List, [], _∷_, _++_, map}
 use mathlib.Core.Option.{some}
 use Prim.Native.Nat.{ℕ, zero, suc, _+_, _-_, _*_, _/_, _^_, _≤_, _<_}
-use native.Mathlib.Omega.{arith}
+use native.Mathlib.Nat.{pow-le-pow-left, pow-le-pow-right}
+use native.Mathlib.Omega.{arith, pow-step}
 use lib.Dec.{ltb}
 use lib.IntN.{ℤ, pos, negsuc, subℕ}
 use lib.ListN.{length, length-append}
 use Rattle.lists.specs.Lists.{at}
 use Rattle.lists.specs.Ranges.{OneTo}
+use Rattle.lists.proofs.Tests.{lt?}
 use Rattle.diagrams.specs.Diagram.{Maps}
 use Rattle.words_decimals.specs.Decimals.{decimal}
 use Rattle.words_decimals.proofs.Decimal.{decimal-within}
@@ -18,9 +20,9 @@ use Rattle.words.specs.Letters.{event-letters, events-letters, letters}
 use Rattle.words.specs.Shape.{Fits, Word}
 use Rattle.words.specs.Word.{Pair, spell}
 use Rattle.words.proofs.Spelled.{spelled-diagram}
-use Rattle.invariants_cycles.specs.Cycles.{e2, e3, c, t, level, longest, period, cuspMap}
-use Rattle.invariants_cycles.proofs.Cardinals.{maximum-under}
-use Rattle.invariants_cycles.proofs.Cycles.{cycles-most, fixes-most, period-most, around-perm}
+use Rattle.invariants_cycles.specs.Cycles.{e2, e3, c, t, level, cuspMap}
+use Rattle.invariants_cycles.proofs.Cycles.{cycles-most, fixes-most, around-perm}
+use Rattle.invariants_cycles.proofs.LevelBound.{level-bound}
 use Rattle.listing.specs.Listing.{count}
 use Rattle.listing.specs.Position.{wordAt}
 use Rattle.listing.specs.Diagrams.{diagramOf, diagramAt}
@@ -44,12 +46,28 @@ signed-length a b h l = go (ltb a b)
     go true = let i = three (suc (b - suc a)) (omega arith) in omega arith
     go false = let i = three (a - b) (omega arith) in omega arith
 
+-- a number of at most n bits
+power-length : (n : ℕ) → n ≤ 50 → (m : ℕ) → m ≤ 2 ^ n → length (decimal m) ≤ n + 2
+power-length n s m h = go (lt? n 16)
+  where
+    go : (n < 16) ⊎ (16 ≤ n) → length (decimal m) ≤ n + 2
+    go (inl l) =
+        let a = pow-le-pow-left {n = 2} {m = 10} (omega arith) n in
+        let e = pow-step 10 n in
+        let b = pow-le-pow-right {n = 10} (omega arith) {i = 0} {j = n} (omega arith) in
+        let i = decimal-within n m (omega arith) (omega arith) in
+        omega arith
+    go (inr l) =
+        let a = pow-le-pow-right {n = 2} (omega arith) s in
+        let i = decimal-within 15 m (omega arith) (omega arith) in
+        omega arith
+
 -- ---- a word in letters
 
 event-length : (d : ℕ) → d < 100 → length (event-letters (suc (suc (suc d)))) ≤ 3
 event-length d h = let i = two d h in omega arith
 
-fits-letters : (w : List ℕ) (h f : ℕ) → h + f ≤ 100 → Fits h f w → length (events-letters w) ≤ 3 * (h + f)
+fits-letters : (w : List ℕ) (h f : ℕ) → h + f ≤ 100 → Fits h f w → length (events-letters w) ≤ 2 * (h + f)
 unfolding events-letters
 fits-letters [] h f s a = omega arith
 fits-letters (x ∷ w) zero f s a = absurd a
@@ -68,7 +86,7 @@ fits-letters (suc (suc (suc d)) ∷ w) (suc (suc h)) f s a =
     let q = length-append (event-letters (suc (suc (suc d)))) (events-letters w) in
     omega arith
 
-pub letters-length : (n : ℕ) (w : List ℕ) → n ≤ 50 → Word n w → length (letters w) ≤ 3 * n + 1
+pub letters-length : (n : ℕ) (w : List ℕ) → n ≤ 50 → Word n w → length (letters w) ≤ 2 * n + 1
 unfolding letters
 letters-length n [] s a = absurd a
 letters-length zero (zero ∷ w) s a = absurd a
@@ -106,7 +124,7 @@ mark-length false = refl
 
 -- a row of such parts: a word, two lists, e2, e3 and c, t, the level and the mark
 parts-fit : (n p : ℕ) (word s0 s1 : List ℕ) (a b d : ℕ) (z : List ℕ) (l : ℕ) (mark : List ℕ)
-    → p < 2 ^ 50 → length word ≤ 3 * n + 1 → length s0 ≤ 3 * n → length s1 ≤ 3 * n → a ≤ 50 → b ≤ 50 → d ≤ 50 → length z ≤ 4 → l ≤ 50 → length mark ≡ 1
+    → p < 2 ^ 50 → length word ≤ 2 * n + 1 → length s0 ≤ 3 * n → length s1 ≤ 3 * n → a ≤ 50 → b ≤ 50 → d ≤ 50 → length z ≤ 4 → length (decimal l) ≤ n + 2 → length mark ≡ 1
     → length (joined 32 (decimal p ∷ word ∷ s0 ∷ s1 ∷ decimal a ∷ decimal b ∷ decimal d ∷ z ∷ decimal l ∷ mark ∷ []) ++ (10 ∷ [])) ≤ 9 * n + 40
 parts-fit n p word s0 s1 a b d z l mark h i2 i3 i4 i5 i6 i7 i8 i9 e =
     let q = joined-10 (decimal p) word s0 s1 (decimal a) (decimal b) (decimal d) z (decimal l) mark in
@@ -114,7 +132,6 @@ parts-fit n p word s0 s1 a b d z l mark h i2 i3 i4 i5 i6 i7 i8 i9 e =
     let j1 = two a (omega arith) in
     let j2 = two b (omega arith) in
     let j3 = two d (omega arith) in
-    let j4 = two l (omega arith) in
     omega arith
 
 -- the parts of a row, of a diagram whose entries are edges
@@ -134,11 +151,11 @@ module _ (n : ℕ) (s : n ≤ 50) (D : Pair) (e : length (D .black) ≡ n) (e′
   c-most : c (length (D .black)) (at (D .black)) (at (D .white)) ≤ 50
   c-most = let i = cycles-most (length (D .black)) (cuspMap (at (D .black)) (at (D .white))) in omega arith
 
-  level-most : level (length (D .black)) (at (D .black)) (at (D .white)) ≤ 50
-  unfolding longest
-  level-most =
-      let i = maximum-under (length (D .black)) (period (length (D .black)) (cuspMap (at (D .black)) (at (D .white)))) (length (D .black)) (λ x h. period-most (around-perm M) x h) in
-      omega arith
+  level-length : length (decimal (level (length (D .black)) (at (D .black)) (at (D .white)))) ≤ n + 2
+  level-length =
+      let h = level-bound (around-perm M) in
+      let q : 2 ^ length (D .black) ≡ 2 ^ n = ap (λ m. 2 ^ m) e in
+      power-length n s _ (omega arith)
 
   t-length : length (signed (t (length (D .black)) (at (D .black)) (at (D .white)))) ≤ 4
   unfolding t
@@ -157,7 +174,7 @@ row-fits n p s h =
     parts-fit n p (letters w) (commas (D .black)) (commas (D .white)) _ _ _ (signed (t (length (D .black)) (at (D .black)) (at (D .white)))) _ (cond (isKept D) (75 ∷ []) (45 ∷ []))
     (let k = count-small n s in omega arith) (letters-length n w (s .1) a)
     (blacks-length n (s .1) D e e′ M) (whites-length n (s .1) D e e′ M) (e2-most n (s .1) D e e′ M) (e3-most n (s .1) D e e′ M) (c-most n (s .1) D e e′ M)
-    (t-length n (s .1) D e e′ M) (level-most n (s .1) D e e′ M) (mark-length (isKept D))
+    (t-length n (s .1) D e e′ M) (level-length n (s .1) D e e′ M) (mark-length (isKept D))
   where
     w : List ℕ
     w = wordAt n p

@@ -98,7 +98,7 @@ refusal k = ascii "refused " ++ (decimal k ++ ascii "\n")
 
 -- ---- room
 
--- 16 digits of the position; 3 n + 1 letters; n entries of two digits and a comma each, twice; e2, e3, c and level of two digits, t of three and a
--- sign; nine spaces, the mark and the newline
+-- 16 digits of the position; 2 n + 1 letters; n entries of two digits and a comma each, twice; e2, e3 and c of two digits, t of three and a sign,
+-- the level of n + 2; nine spaces, the mark and the newline
 unfoldable pub rowBytes : ℕ → ℕ
 rowBytes n = 9 * n + 40

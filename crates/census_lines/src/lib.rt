@@ -39,7 +39,7 @@ fn put_numbers(out: &mut [u8], place: usize, numbers: Numbers) -> usize
     let fourth = put_number_field(out, third, numbers.c as u64);
     let sign = put_byte(out, fourth, b' ');
     let last = put_signed(out, sign, numbers.t);
-    put_number_field(out, last, numbers.level as u64)
+    put_number_field(out, last, numbers.level)
 }
 
 // The same of an answer of invariants. Nothing where it is a refusal, which no listed diagram has.

@@ -43,7 +43,7 @@ pub fn invariants(s0: &[u16], s1: &[u16], root: u64) -> Reply {
     let mut e3: u16 = 0;
     let mut c: u16 = 0;
     let mut t: i32 = 0;
-    let mut level: u16 = 0;
+    let mut level: u64 = 0;
     let refusal = kaldvemir_invariants(s0, s1, root, &mut e2, &mut e3, &mut c, &mut t, &mut level);
     numbered(refusal, e2, e3, c, level, t)
 }

@@ -90,11 +90,11 @@ pub fn shown(refusal: u16, edges: u64, items: u64) -> Reply {
 }
 
 // Four numbers and the signed one.
-pub fn numbered(refusal: u16, a: u16, b: u16, c: u16, d: u16, signed: i32) -> Reply {
+pub fn numbered(refusal: u16, a: u16, b: u16, c: u16, d: u64, signed: i32) -> Reply {
     let mut reply = valued(0, long(a));
     reply.numbers[1] = long(b);
     reply.numbers[2] = long(c);
-    reply.numbers[3] = long(d);
+    reply.numbers[3] = d;
     reply.signed = signed;
     unless_refused(refusal, reply)
 }

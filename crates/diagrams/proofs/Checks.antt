@@ -118,12 +118,15 @@ module _ (s0 s1 : List ℕ) (root : ℕ) where
       go (inr l) (inl m) = absurd (refused-at b .1 (before-asked j k m (refused-at a .0)))
       go (inr l) (inr m) = omega arith
 
-  not-both : (k : ℕ) → Accepts s0 s1 root → Refuses s0 s1 root k → ⊥
-  not-both k a r = go (lt? k 9)
+  pub refuses-most : (k : ℕ) → Refuses s0 s1 root k → k ≤ 8
+  refuses-most k r = go (lt? k 9)
     where
-      go : (k < 9) ⊎ (9 ≤ k) → ⊥
-      go (inl l) = refused-at r .1 (before-asked 9 k l (accepted-at a))
-      go (inr l) = refused-at r .1 (rw (List·getD-eq-default conditions Unit l) tt)
+      go : (k < 9) ⊎ (9 ≤ k) → k ≤ 8
+      go (inl l) = omega arith
+      go (inr l) = absurd (refused-at r .1 (rw (List·getD-eq-default conditions Unit l) tt))
+
+  pub not-both : (k : ℕ) → Accepts s0 s1 root → Refuses s0 s1 root k → ⊥
+  not-both k a r = let l = refuses-most k r in refused-at r .1 (before-asked 9 k (omega arith) (accepted-at a))
 
   pub checked-once : (a b : Verdict) → CheckPromise s0 s1 root a → CheckPromise s0 s1 root b → a ≡ b
   checked-once Accepted Accepted p q = refl

@@ -1,7 +1,7 @@
--- The answers of invariants, as document 01 numbers them: a number is 01's of the refusal, 0 where the call is
+-- The answers of invariants, as document 01 and request U3 number them: a number is that of the refusal, 0 where the call is
 -- accepted; a value is the answer's own, or `old` where the answer has no such value.
 --
---   invariants-number answer   1 to 8, or 0
+--   invariants-number answer   1 to 8 or 62, or 0
 --   invariants-e2, ..          the five numbers
 use Prim.Native.Nat.{ℕ}
 use lib.IntN.{ℤ}

@@ -1,20 +1,22 @@
 // What the invariants of a diagram count: the edges that a list fixes, and the cycles of i to s0(s1(i)). The lists are known to be maps of
 // the edges.
 use diagrams::Diagram;
+use invariants_multiples::common_multiple;
 use lists::to_index;
 ghost use mathlib.Core.Path.{_≡_};
-ghost use Prim.Native.Nat.{_≤_, max};
+ghost use Prim.Native.Nat.{_≤_};
 ghost use lib.ListN.{length};
 ghost use Rattle.lists.specs.Lists.{at};
 ghost use Rattle.lists.specs.Ranges.{OneTo};
 ghost use Rattle.diagrams.specs.Check.{Mapped};
-ghost use Rattle.invariants_cycles.specs.Cycles.{cuspMap, cycles, fixedPoints, longest, period};
+ghost use Rattle.invariants_multiples.specs.Multiples.{Held, leastCommonMultiple};
+ghost use Rattle.invariants_cycles.specs.Cycles.{cuspMap, cycles, cycleLengths, fixedPoints, period};
 ghost use Rattle.invariants_counting.specs.Marks.{CycleMarked};
 
-// How many cycles there are, and how many edges the longest has.
+// How many cycles there are, and the least common multiple of their lengths; 0 stands for one of 2^64 or more.
 pub struct Cycles {
     pub count: u16,
-    pub longest: u16,
+    pub level: u64,
 }
 
 // How many edges the list fixes.
@@ -64,21 +66,15 @@ fn walk(s0: &[u16], s1: &[u16], seen: &mut [u8; Diagram::MAX_SIZE], i: usize) ->
     }
 }
 
-fn larger(a: u16, b: u16) -> u16
-    ensures { λ r. ⌜ r ≡ max a b ⌝ }
-{
-    if a < b { b } else { a }
-}
-
 // Walks round each cycle once, from the least of its edges, which is the first to be met without a mark.
 pub fn count_cycles(s0: &[u16], s1: &[u16]) -> Cycles
     requires { ⌜ Mapped (now s0) (now s1) ⌝ }
     ensures { λ r. ⌜ r .count ≡ cycles (length (now (s0 .entry))) (cuspMap (at (now (s0 .entry))) (at (now (s1 .entry)))) ⌝ }
-    ensures { λ r. ⌜ r .longest ≡ longest (length (now (s0 .entry))) (cuspMap (at (now (s0 .entry))) (at (now (s1 .entry)))) ⌝ }
+    ensures { λ r. ⌜ Held (leastCommonMultiple (cycleLengths (length (now (s0 .entry))) (cuspMap (at (now (s0 .entry))) (at (now (s1 .entry)))))) (r .level) ⌝ }
 {
     let mut seen = [0u8; Diagram::MAX_SIZE];
     let mut count: u16 = 0;
-    let mut longest: u16 = 0;
+    let mut level: u64 = 1;
     let mut i: usize = 0;
     while i < s0.len() {
         let mark = seen[i];
@@ -86,8 +82,8 @@ pub fn count_cycles(s0: &[u16], s1: &[u16]) -> Cycles
         if mark != 1 {
             let k = walk(s0, s1, &mut seen, i);
             count += 1;
-            longest = larger(k, longest);
+            level = common_multiple(level, k as u64);
         }
     }
-    Cycles { count, longest }
+    Cycles { count, level }
 }

@@ -1,18 +1,16 @@
--- Laws of `card` and `maximum`: how many of 1..n pass a test, and the largest of n numbers.
+-- Laws of `card`: how many of 1..n pass a test.
 -- Two cardinals are compared by a one-to-one map from what passes the one test to what passes the other.
 use mathlib.Core.Path.{_≡_, refl, sym, ap, _∙_}
 use mathlib.Core.Logic.{_≢_, _⊎_, inl, inr}
 use mathlib.Core.Bool.{Bool, true, false, true≢false, cond}
 use mathlib.Core.List.{List, [], _∷_}
-use Prim.Native.Nat.{ℕ, zero, suc, _+_, _≤_, max}
+use Prim.Native.Nat.{ℕ, zero, suc, _+_, _≤_}
 use native.Mathlib.Omega.{arith}
 use lib.ListN.{length}
 use Rattle.lists.specs.Lists.{Has, Distinct}
-use Rattle.lists.specs.Ranges.{OneTo, card, maximum}
+use Rattle.lists.specs.Ranges.{OneTo, card}
 use Rattle.lists.proofs.Tests.{same?}
 use Rattle.lists.proofs.Lists.{pigeons}
-
--- ---- card
 
 pub card-all : (n : ℕ) → card n (λ x. true) ≡ n
 card-all zero = refl
@@ -82,17 +80,3 @@ card-le n t m u h into one-one =
         let r = passing-from t h n y a in
         let q = into (r .0) (r .1) (r .2) in
         rw (r .3) (passing-has u (λ x. x) m (h (r .0)) (q .0) (q .1))
-
--- ---- maximum
-
-pub maximum-over : (n : ℕ) (t : ℕ → ℕ) (x : ℕ) → OneTo n x → t x ≤ maximum n t
-maximum-over zero t x e = absurd (omega arith)
-maximum-over (suc n) t x e = go (same? x (suc n)) (maximum-over n t x)
-  where
-    go : (x ≡ suc n) ⊎ (x ≢ suc n) → (OneTo n x → t x ≤ maximum n t) → t x ≤ max (t (suc n)) (maximum n t)
-    go (inl q) k = rw q (omega arith)
-    go (inr q) k = let i = k (omega arith) in omega arith
-
-pub maximum-under : (n : ℕ) (t : ℕ → ℕ) (b : ℕ) → ((x : ℕ) → OneTo n x → t x ≤ b) → maximum n t ≤ b
-maximum-under zero t b k = omega arith
-maximum-under (suc n) t b k = let i = k (suc n) (omega arith) in let j = maximum-under n t b (λ x e. k x (omega arith)) in omega arith

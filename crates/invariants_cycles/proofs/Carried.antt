@@ -7,8 +7,8 @@ use native.Mathlib.Omega.{arith}
 use lib.Dec.{eqb}
 use Rattle.lists.specs.Ranges.{OneTo}
 use Rattle.lists.proofs.Tests.{eqb-eq, eqb-true}
-use Rattle.invariants_cycles.specs.Cycles.{Permutation, iterate, SameCycle, leastOfCycle, cycles, period, longest, fixedPoints}
-use Rattle.invariants_cycles.proofs.Cardinals.{card-le, maximum-over, maximum-under}
+use Rattle.invariants_cycles.specs.Cycles.{Permutation, iterate, SameCycle, leastOfCycle, cycles, period, fixedPoints}
+use Rattle.invariants_cycles.proofs.Cardinals.{card-le}
 use Rattle.invariants_cycles.proofs.Cycles.{same-trans, same-sym, same-in, after-in, Period, period-only, period-is, lowest, lowest-same, lowest-least, least-below}
 
 pub record Carried (n : ℕ) (φ ψ h : ℕ → ℕ) : Type 0 where
@@ -43,10 +43,6 @@ module _ {n : ℕ} {φ ψ h : ℕ → ℕ} (p : Permutation n φ) (q : Permutati
         back = after-carried (period n φ x) x e ∙ ap h (here .back);
         first = λ j a b r. here .first j a b (c .one-one _ x (after-in p j x e) e (sym (after-carried j x e) ∙ r));
       }
-
-  pub longest-carried : longest n φ ≤ longest n ψ
-  unfolding longest
-  longest-carried = maximum-under n (period n φ) _ (λ x e. rw (period-carried x e) (maximum-over n (period n ψ) (h x) (c .into x e)))
 
   pub cycles-carried : cycles n φ ≤ cycles n ψ
   unfolding cycles

@@ -7,14 +7,14 @@ use Prim.Native.Nat.{ℕ, zero, suc, _+_, _-_, _≤_, _<_, min}
 use native.Mathlib.Nat.{suc-add}
 use native.Mathlib.Omega.{arith}
 use lib.Dec.{eqb, leb}
-use Rattle.lists.specs.Ranges.{OneTo}
+use Rattle.lists.specs.Ranges.{OneTo, firstPassing}
 use Rattle.lists.proofs.Tests.{same?, lt?, eqb-eq, eqb-true, le-true, leb-true}
 use Rattle.lists.proofs.Ranges.{every-true, true-every, card-most}
+use Rattle.lists.proofs.Searches.{First, seek-first}
 use Rattle.diagrams.specs.Diagram.{Maps}
 use Rattle.diagrams.proofs.Diagrams.{black-one-one, white-one-one}
-use Rattle.invariants_cycles.specs.Cycles.{Permutation, iterate, SameCycle, firstPassing, leastOfCycle, cycles, period, fixedPoints, cuspMap}
+use Rattle.invariants_cycles.specs.Cycles.{Permutation, iterate, SameCycle, leastOfCycle, cycles, period, fixedPoints, cuspMap}
 use Rattle.invariants_cycles.proofs.Cardinals.{card-le, card-all}
-use Rattle.invariants_cycles.proofs.Searches.{First, seek-first}
 
 -- ---- bounds
 
@@ -98,28 +98,31 @@ module _ {n : ℕ} {φ : ℕ → ℕ} (p : Permutation n φ) where
     return-by : (i d : ℕ) → iterate φ i x ≡ iterate φ (i + d) x → iterate φ d x ≡ x
     return-by i d q = sym (after-one-one i x (iterate φ d x) e (after-in d x e) (q ∙ after-add φ i d x))
 
+    -- the first m powers are different where none before the m-th leads back to x
+    pub powers-differ : (m : ℕ) → ((j : ℕ) → 1 ≤ j → j < m → iterate φ j x ≢ x) → (j k : ℕ) → OneTo m j → OneTo m k → iterate φ j x ≡ iterate φ k x → j ≡ k
+    powers-differ m away j k a b q = go (lt? j k) (lt? k j)
+      where
+        later : (j k : ℕ) → OneTo m j → OneTo m k → j < k → iterate φ j x ≡ iterate φ k x → ⊥
+        later j k a b l q =
+            let s : k ≡ j + (k - j) = omega arith in
+            away (k - j) (omega arith) (omega arith) (return-by j (k - j) (q ∙ ap (λ i. iterate φ i x) s))
+
+        go : (j < k) ⊎ (k ≤ j) → (k < j) ⊎ (j ≤ k) → j ≡ k
+        go (inl l) h = absurd (later j k a b l q)
+        go (inr l) (inl h) = absurd (later k j b a h (sym q))
+        go (inr l) (inr h) = omega arith
+
     abbrev returns : ℕ → Bool
     returns k = eqb (iterate φ k x) x
 
     some-return : ((j : ℕ) → 1 ≤ j → j < 1 + n → returns j ≡ false) → ⊥
     some-return never =
         let h = rw (card-all (suc n), card-all n) at
-        (card-le (suc n) (λ k. true) n (λ k. true) (λ k. iterate φ k x) (λ k i _. (after-in k x e, refl)) (λ j k a _ b _ q. different j k a b q)) in
+        (card-le (suc n) (λ k. true) n (λ k. true) (λ k. iterate φ k x) (λ k i _. (after-in k x e, refl)) (λ j k a _ b _ q. powers-differ (suc n) away j k a b q)) in
         omega arith
       where
-        later : (j k : ℕ) → OneTo (suc n) j → OneTo (suc n) k → j < k → iterate φ j x ≡ iterate φ k x → ⊥
-        later j k a b l q =
-            let s : k ≡ j + (k - j) = omega arith in
-            let back = return-by j (k - j) (q ∙ ap (λ i. iterate φ i x) s) in
-            true≢false (sym (eqb-eq _ x back) ∙ never (k - j) (omega arith) (omega arith))
-
-        different : (j k : ℕ) → OneTo (suc n) j → OneTo (suc n) k → iterate φ j x ≡ iterate φ k x → j ≡ k
-        different j k a b q = go (lt? j k) (lt? k j)
-          where
-            go : (j < k) ⊎ (k ≤ j) → (k < j) ⊎ (j ≤ k) → j ≡ k
-            go (inl l) m = absurd (later j k a b l q)
-            go (inr l) (inl m) = absurd (later k j b a m (sym q))
-            go (inr l) (inr m) = omega arith
+        away : (j : ℕ) → 1 ≤ j → j < suc n → iterate φ j x ≢ x
+        away j a b q = true≢false (sym (eqb-eq _ x q) ∙ never j a (omega arith))
 
     period-first : First n returns 1 (period n φ x)
     unfolding period

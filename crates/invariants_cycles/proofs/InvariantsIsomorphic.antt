@@ -7,7 +7,8 @@ use Rattle.diagrams.specs.Isomorphism.{Isomorphism, IsomorphicMaps, RootedIsomo
 use Rattle.diagrams.proofs.Isomorphisms.{isomorphism-sym, maps-carried, root-isomorphic-isomorphic}
 use Rattle.invariants_cycles.specs.Cycles.{cuspMap, e2, e3, c, t, level}
 use Rattle.invariants_cycles.proofs.Cycles.{around-perm}
-use Rattle.invariants_cycles.proofs.Carried.{Carried, fixes-carried, cycles-carried, longest-carried}
+use Rattle.invariants_cycles.proofs.Carried.{Carried, fixes-carried, cycles-carried}
+use Rattle.invariants_cycles.proofs.Levels.{level-carried}
 
 pub record SameInvariants (n : ℕ) (f g : ℕ → ℕ) (n′ : ℕ) (f′ g′ : ℕ → ℕ) : Type 0 where
   pub e2-same : e2 n f g ≡ e2 n′ f′ g′
@@ -28,7 +29,7 @@ module _ {n : ℕ} {f g f′ g′ φ : ℕ → ℕ} (m : Maps n f g) (i : Isomor
     e2-most = fixes-carried record { into = i .into; one-one = i .one-one; carries = i .whites };
     e3-most = fixes-carried record { into = i .into; one-one = i .one-one; carries = i .blacks };
     c-most = cycles-carried (around-perm m) (around-perm (maps-carried m i)) around-carried;
-    level-most = longest-carried (around-perm m) (around-perm (maps-carried m i)) around-carried;
+    level-most = level-carried (around-perm m) (around-perm (maps-carried m i)) around-carried;
   }
     where
       around-carried : Carried n (cuspMap f g) (cuspMap f′ g′) φ

@@ -1,6 +1,7 @@
 pub mod Cardinals
-pub mod Searches
 pub mod Cycles
 pub mod Carried
+pub mod Levels
+pub mod LevelBound
 pub mod InvariantsIsomorphic
 pub mod Examples

@@ -7,16 +7,18 @@
 --   leastOfCycle n φ x    x is the least edge of its cycle
 --   cycles n φ            the number of cycles: how many edges are the least of theirs
 --   period n φ x          the length of x's cycle: the least k from 1 on with φ applied k times giving x back
---   longest n φ           the length of the longest cycle
+--   cycleLengths n φ      the lengths of the cycles, each once for every edge of its cycle
 --   fixedPoints n g       how many edges g fixes
 --   cuspMap f g           the map i to f (g i), whose cycles the invariants count
 --   e2, e3, c, t, level   the invariants of a diagram; t is a signed number
 use mathlib.Core.Path.{_≡_}
-use mathlib.Core.Bool.{Bool, true, false, cond}
+use mathlib.Core.Bool.{Bool}
+use mathlib.Core.List.{List, map}
 use Prim.Native.Nat.{ℕ, zero, suc, _+_, _*_}
 use lib.Dec.{eqb, leb}
 use lib.IntN.{ℤ, subℕ}
-use Rattle.lists.specs.Ranges.{OneTo, every, card, maximum}
+use Rattle.lists.specs.Ranges.{OneTo, every, card, firstPassing, down}
+use Rattle.invariants_multiples.specs.Multiples.{leastCommonMultiple}
 
 pub record Permutation (n : ℕ) (φ : ℕ → ℕ) : Type 0 where
   pub into : (x : ℕ) → OneTo n x → OneTo n (φ x)
@@ -36,16 +38,11 @@ leastOfCycle n φ x = every n (λ k. leb x (iterate φ k x))
 unfoldable pub cycles : ℕ → (ℕ → ℕ) → ℕ
 cycles n φ = card n (leastOfCycle n φ)
 
--- the first of k, k + 1, .., m of them, that passes the test t
-abbrev pub firstPassing : ℕ → (ℕ → Bool) → ℕ → ℕ
-firstPassing zero t k = k
-firstPassing (suc m) t k = cond (t k) k (firstPassing m t (suc k))
-
 unfoldable pub period : ℕ → (ℕ → ℕ) → ℕ → ℕ
 period n φ x = firstPassing n (λ k. eqb (iterate φ k x) x) 1
 
-unfoldable pub longest : ℕ → (ℕ → ℕ) → ℕ
-longest n φ = maximum n (period n φ)
+abbrev pub cycleLengths : ℕ → (ℕ → ℕ) → List ℕ
+cycleLengths n φ = map (period n φ) (down n)
 
 unfoldable pub fixedPoints : ℕ → (ℕ → ℕ) → ℕ
 fixedPoints n g = card n (λ x. eqb (g x) x)
@@ -70,6 +67,6 @@ c n f g = cycles n (cuspMap f g)
 unfoldable pub t : ℕ → (ℕ → ℕ) → (ℕ → ℕ) → ℤ
 t n f g = subℕ (12 + n) (3 * e2 n f g + 4 * e3 n f g + 6 * c n f g)
 
--- 01's word for the largest cusp width; the least common multiple of the widths is another notion
+-- the least common multiple of the cusp widths (Wohlfahrt's level), a number of any size
 abbrev pub level : ℕ → (ℕ → ℕ) → (ℕ → ℕ) → ℕ
-level n f g = longest n (cuspMap f g)
+level n f g = leastCommonMultiple (cycleLengths n (cuspMap f g))

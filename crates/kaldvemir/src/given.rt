@@ -125,7 +125,7 @@ pub extern "C" fn kaldvemir_invariants(
     e3: &mut u16,
     c: &mut u16,
     t: &mut i32,
-    level: &mut u16,
+    level: &mut u64,
 ) -> u16
     ensures { λ r. ⌜ ((a : Measured)
         × InvariantsPromise (now (s0 .entry)) (now (s1 .entry)) root a

@@ -99,7 +99,7 @@ pub fn invariants_answer(
     e3: &mut u16,
     c: &mut u16,
     t: &mut i32,
-    level: &mut u16,
+    level: &mut u64,
 ) -> u16
     ensures { λ r. ⌜ (r ≡ answers.invariants-number a)
         × (now (e2 .exit) ≡ answers.invariants-e2 a (now (e2 .entry)))

@@ -2,7 +2,7 @@
 use mathlib.Core.Path.{_≡_, refl, sym, ap}
 use mathlib.Core.Logic.{_≢_, _⊎_, inl, inr}
 use mathlib.Core.Bool.{Bool, true, false, cond}
-use mathlib.Core.List.{List, [], _∷_}
+use mathlib.Core.List.{List, [], _∷_, map}
 use Prim.Native.Nat.{ℕ, zero, suc, _+_, _≤_, _<_}
 use native.Mathlib.Omega.{arith}
 use lib.ListN.{length}
@@ -33,6 +33,20 @@ distinct-down (suc n) = (λ h. let i = down-has n (suc n) h in omega arith, dist
 pub length-down : (n : ℕ) → length (down n) ≡ n
 length-down zero = refl
 length-down (suc n) = ap suc (length-down n)
+
+-- the values of t at 1..n
+pub has-values : (n : ℕ) (t : ℕ → ℕ) (x : ℕ) → OneTo n x → Has (t x) (map t (down n))
+has-values zero t x e = absurd (omega arith)
+has-values (suc n) t x e = go (same? x (suc n)) (has-values n t x)
+  where
+    go : (x ≡ suc n) ⊎ (x ≢ suc n) → (OneTo n x → Has (t x) (map t (down n))) → Has (t x) (map t (down (suc n)))
+    go (inl p) k = inl (ap t p)
+    go (inr q) k = inr (k (omega arith))
+
+pub values-has : (n : ℕ) (t : ℕ → ℕ) (d : ℕ) → Has d (map t (down n)) → (x : ℕ) × OneTo n x × (d ≡ t x)
+values-has zero t d h = absurd h
+values-has (suc n) t d (inl e) = (suc n, omega arith, e)
+values-has (suc n) t d (inr h) = let r = values-has n t d h in let i = r .1 in (r .0, omega arith, r .2)
 
 -- a list of edges without repeats has at most n
 pub edges-few : (n : ℕ) (l : List ℕ) → Distinct l → ((x : ℕ) → Has x l → OneTo n x) → length l ≤ n

@@ -3,29 +3,36 @@ use mathlib.Core.Path.{_≡_, refl, sym, ap, _∙_}
 use mathlib.Core.Logic.{_≢_, _⊎_, inl, inr, ⊎-elim, _↔_}
 use mathlib.Core.Bool.{Bool, true, false, true≢false, cond}
 use mathlib.Core.List.{List, [], _∷_}
-use Prim.Native.Nat.{ℕ, zero, suc, _+_, _≤_, _<_, max}
+use Prim.Native.Nat.{ℕ, zero, suc, _+_, _^_, _≤_, _<_, _∣_}
 use native.Mathlib.Omega.{arith}
 use lib.Dec.{eqb}
 use lib.ListN.{length}
 use Rattle.lists.specs.Lists.{at, Has, Distinct}
-use Rattle.lists.specs.Ranges.{OneTo, card, maximum}
+use Rattle.lists.specs.Ranges.{OneTo, card}
 use Rattle.lists.proofs.Tests.{same?, lt?, eqb-eq, eqb-true}
+use Rattle.lists.proofs.Ranges.{has-values, values-has}
 use Rattle.diagrams.specs.Check.{Accepts}
 use Rattle.diagrams.specs.Isomorphism.{Isomorphic}
-use Rattle.diagrams.proofs.Checks.{accepts-diagram}
+use Rattle.diagrams.proofs.Checks.{accepts-diagram, refuses-most, not-both}
+use Rattle.invariants_multiples.specs.Multiples.{leastCommonMultiple}
 use Rattle.invariants_cycles.specs.Cycles as spec
-use Rattle.invariants_cycles.specs.Cycles.{Permutation, SameCycle, leastOfCycle, period, cycles, longest, fixedPoints, cuspMap}
-use Rattle.invariants_cycles.proofs.Cardinals.{maximum-over}
+use Rattle.invariants_cycles.specs.Cycles.{Permutation, SameCycle, leastOfCycle, period, cycles, cycleLengths, fixedPoints, cuspMap}
 use Rattle.invariants_cycles.proofs.Cycles as laws
+use Rattle.invariants_cycles.proofs.Levels as levels
+use Rattle.invariants_cycles.proofs.LevelBound.{level-bound}
 use Rattle.invariants_cycles.proofs.InvariantsIsomorphic.{invariants-isomorphic}
 use Rattle.invariants.specs.declared.Numbers.{Numbers}
-use Rattle.invariants.specs.declared.Measured.the-variants.{Known}
-use Rattle.invariants.specs.Promises.{Invariants, InvariantsPromise}
+use Rattle.invariants.specs.declared.Measured.{Measured}
+use Rattle.invariants.specs.declared.Measured.the-variants.{Known, Refused}
+use Rattle.invariants.specs.Answers.{invariants-number}
+use Rattle.invariants.specs.Promises.{Invariants, Outgrown, InvariantsPromise}
+use Rattle.invariants.proofs.SmallLevels.{small-level}
 use Rattle.invariants.proofs.Differences.{t-of}
 use Rattle.theorems.specs.Listing.{ExactlyOne}
-use Rattle.theorems.specs.Invariants.{Counts, LeastReturn, Lowest, CyclesHold, Means, InvariantsHold}
+use Rattle.theorems.proofs.Determined.Diagrams.{invariants-once}
+use Rattle.theorems.specs.Invariants.{Counts, LeastReturn, Lowest, Level, CyclesHold, Means, InvariantsHold}
 
--- ---- how many pass a test, and the largest of some numbers
+-- ---- how many pass a test
 
 -- what passes a test is counted by `card`
 pub counted : (n : ℕ) (t : ℕ → Bool) (P : ℕ → Type 0) → ((x : ℕ) → OneTo n x → (t x ≡ true) ↔ P x) → Counts n P (card n t)
@@ -58,17 +65,6 @@ counted (suc n) t P k = go (t (suc n)) refl (counted n t P (λ x e. k x (omega a
         from x i p (inl q) = absurd (true≢false (sym (k x i .1 p) ∙ ap t q ∙ e))
         from x i p (inr q) = C .exactly x .1 (omega arith, p)
 
--- the largest is one of them
-maximum-attained : (n : ℕ) (t : ℕ → ℕ) → 1 ≤ n → (x : ℕ) × OneTo n x × (maximum n t ≡ t x)
-maximum-attained zero t h = absurd (omega arith)
-maximum-attained (suc zero) t h = (1, omega arith, omega arith)
-maximum-attained (suc (suc n)) t h = go (maximum-attained (suc n) t (omega arith)) (lt? (t (suc (suc n))) (maximum (suc n) t))
-  where
-    go : (x : ℕ) × OneTo (suc n) x × (maximum (suc n) t ≡ t x) → (t (suc (suc n)) < maximum (suc n) t) ⊎ (maximum (suc n) t ≤ t (suc (suc n)))
-        → (x : ℕ) × OneTo (suc (suc n)) x × (maximum (suc (suc n)) t ≡ t x)
-    go r (inl l) = let i = r .1 in let e = r .2 in (r .0, omega arith, omega arith)
-    go r (inr l) = (suc (suc n), omega arith, omega arith)
-
 -- ---- the cycles of a permutation
 
 least-return : {φ : ℕ → ℕ} {x l : ℕ} → laws.Period φ x l → LeastReturn φ x l
@@ -77,6 +73,9 @@ least-return {φ} {x} {l} P = record { some = P .some; back = P .back; least = �
     go : (k : ℕ) → 1 ≤ k → spec.iterate φ k x ≡ x → (k < l) ⊎ (l ≤ k) → l ≤ k
     go k i e (inl h) = absurd (P .first k i h e)
     go k i e (inr h) = h
+
+level-only : {n : ℕ} {φ : ℕ → ℕ} {m k : ℕ} → Level n φ m → Level n φ k → m ≡ k
+level-only {n} {φ} {m} {k} L K = let a = L .least k (K .positive) (K .divided) in let b = K .least m (L .positive) (L .divided) in omega arith
 
 module _ {n : ℕ} {φ : ℕ → ℕ} (p : Permutation n φ) where
   one-lowest : (x : ℕ) → OneTo n x → ExactlyOne n (λ y. SameCycle φ x y × Lowest φ y)
@@ -104,13 +103,22 @@ module _ {n : ℕ} {φ : ℕ → ℕ} (p : Permutation n φ) where
   unfolding cycles
   cycles-are = counted n (leastOfCycle n φ) (Lowest φ) (λ x e. (laws.least-below p x e, laws.below-least p x e))
 
-  longest-is : 1 ≤ n → (x : ℕ) × OneTo n x × (longest n φ ≡ period n φ x)
-  unfolding longest
-  longest-is h = maximum-attained n (period n φ) h
+  -- what is the length of an edge's cycle is its period
+  return-period : (x l : ℕ) → OneTo n x → LeastReturn φ x l → l ≡ period n φ x
+  return-period x l e R =
+      let P = laws.period-is p x e in
+      let a = R .least (period n φ x) (P .some) (P .back) in
+      let b = least-return P .least l (R .some) (R .back) in
+      omega arith
 
-  longest-most : (x : ℕ) → OneTo n x → period n φ x ≤ longest n φ
-  unfolding longest
-  longest-most x e = maximum-over n (period n φ) x e
+  level-is : Level n φ (leastCommonMultiple (cycleLengths n φ))
+  level-is =
+      let L = levels.level-is p in
+      record {
+        positive = L .positive;
+        divided = λ x l e R. rw (return-period x l e R) (L .multiple (period n φ x) (has-values n (period n φ) x e));
+        least = λ k i h. L .least k i (λ d j. (let r = values-has n (period n φ) d j in rw (r .2) (h (r .0) _ (r .1) (least-return (laws.period-is p (r .0) (r .1))))));
+      }
 
   cycles-of : CyclesHold n φ
   cycles-of = record {
@@ -119,8 +127,9 @@ module _ {n : ℕ} {φ : ℕ → ℕ} (p : Permutation n φ) where
     one-lowest = one-lowest;
     lowest-is = λ x e. (laws.least-below p x e, laws.below-least p x e);
     cycles-are = cycles-are;
-    longest-is = longest-is;
-    longest-most = longest-most;
+    level-is = level-is;
+    level-only = λ m k. level-only;
+    level-bound = level-bound p;
   }
 
 -- ---- the numbers of the operation
@@ -133,13 +142,12 @@ permutes : (s0 s1 : List ℕ) (root : ℕ) → Accepts s0 s1 root → Permutatio
 permutes s0 s1 root A = laws.around-perm (accepts-diagram s0 s1 root A .maps)
 
 measured : (s0 s1 : List ℕ) (root : ℕ) (x : Numbers) → InvariantsPromise s0 s1 root (Known x) → Means (length s0) (at s0) (at s1) x
-measured s0 s1 root x (A, I) = record {
+measured s0 s1 root x (A, _, I) = record {
   e2-is = rw (I .e2-is) (fixes-are n (at s1));
   e3-is = rw (I .e3-is) (fixes-are n (at s0));
   c-is = rw (I .c-is) (C .cycles-are);
   t-is = I .t-is ∙ sym (t-of n (at s0) (at s1) (x .e2) (x .e3) (x .c) (I .e2-is) (I .e3-is) (I .c-is));
-  level-is = (let m = C .longest-is (A .size .0) in (m .0, m .1, rw (I .level-is ∙ m .2) (C .period-is (m .0) (m .1))));
-  level-most = λ i l e R. (let P = C .period-is i e in let a = R .least (period n φ i) (P .some) (P .back) in let b = C .longest-most i e in let q = I .level-is in omega arith);
+  level-is = rw (I .level-is) (C .level-is);
 }
   where
     n : ℕ
@@ -162,14 +170,32 @@ isomorphic-same s0 s1 r A t0 t1 i x I =
       level-is = I .level-is ∙ S .level-same;
     }
 
--- the numbers are those of one diagram
-numbers-same : (s0 s1 : List ℕ) (x y : Numbers) → Invariants s0 s1 x → Invariants s0 s1 y → x ≡ y
-numbers-same s0 s1 x y I J =
-    let z : _≡_ {A = Numbers} record { e2 = x .e2; e3 = x .e3; c = x .c; t = x .t; level = x .level } record { e2 = y .e2; e3 = y .e3; c = y .c; t = y .t; level = y .level } = cc in
-    z
+-- ---- the refusal of the level
 
-isomorphic-measured : (s0 s1 : List ℕ) (r : ℕ) (x : Numbers) → InvariantsPromise s0 s1 r (Known x) → (t0 t1 : List ℕ) (q : ℕ) (y : Numbers) → InvariantsPromise t0 t1 q (Known y) → Isomorphic s0 s1 t0 t1 → x ≡ y
-isomorphic-measured s0 s1 r x (A, I) t0 t1 q y (B, J) i = numbers-same t0 t1 x y (isomorphic-same s0 s1 r A t0 t1 i x I) J
+outgrown : (s0 s1 : List ℕ) (root : ℕ) (a : Measured) → InvariantsPromise s0 s1 root a
+    → (invariants-number a ≡ 62) ↔ (Accepts s0 s1 root × ((m : ℕ) × Level (length s0) (cuspMap (at s0) (at s1)) m × (2 ^ 64 ≤ m)))
+outgrown s0 s1 root (Known x) (A, few, I) = (λ e. absurd (omega arith), λ h. absurd (few (rw (level-only (level-is (permutes s0 s1 root A)) (h .1 .1)) (h .1 .2))))
+outgrown s0 s1 root (Refused k) (inl R) = (λ e. (let i = refuses-most s0 s1 root k R in absurd (omega arith)), λ h. absurd (not-both s0 s1 root k (h .0) R))
+outgrown s0 s1 root (Refused k) (inr (e, A, O)) = (λ _. (A, (_, level-is (permutes s0 s1 root A), O)), λ _. e)
+
+known-otherwise : (s0 s1 : List ℕ) (root : ℕ) (a : Measured) → InvariantsPromise s0 s1 root a → (Accepts s0 s1 root → ¬ Outgrown s0 s1) → invariants-number a ≢ 62
+known-otherwise s0 s1 root (Known x) P few e = omega arith
+known-otherwise s0 s1 root (Refused k) (inl R) few e = let i = refuses-most s0 s1 root k R in omega arith
+known-otherwise s0 s1 root (Refused k) (inr (_, A, O)) few e = few A O
+
+-- ---- isomorphic diagrams
+
+-- what is promised of the one is promised of the other
+carried : (s0 s1 : List ℕ) (r : ℕ) → Accepts s0 s1 r → (a : Measured) → InvariantsPromise s0 s1 r a
+    → (t0 t1 : List ℕ) (q : ℕ) → Accepts t0 t1 q → Isomorphic s0 s1 t0 t1 → InvariantsPromise t0 t1 q a
+carried s0 s1 r A (Known x) P t0 t1 q B i =
+    (B, λ far. P .1 (rw (invariants-isomorphic (accepts-diagram s0 s1 r A .maps) i .level-same) far), isomorphic-same s0 s1 r A t0 t1 i x (P .2))
+carried s0 s1 r A (Refused k) (inl R) t0 t1 q B i = absurd (not-both s0 s1 r k A R)
+carried s0 s1 r A (Refused k) (inr O) t0 t1 q B i = inr (O .0, B, rw (← invariants-isomorphic (accepts-diagram s0 s1 r A .maps) i .level-same) (O .2))
+
+isomorphic-measured : (s0 s1 : List ℕ) (r : ℕ) → Accepts s0 s1 r → (a : Measured) → InvariantsPromise s0 s1 r a
+    → (t0 t1 : List ℕ) (q : ℕ) → Accepts t0 t1 q → (b : Measured) → InvariantsPromise t0 t1 q b → Isomorphic s0 s1 t0 t1 → a ≡ b
+isomorphic-measured s0 s1 r A a P t0 t1 q B b Q i = invariants-once t0 t1 q a b (carried s0 s1 r A a P t0 t1 q B i) Q
 
 pub invariants-hold : InvariantsHold
-invariants-hold = record { permutes = permutes; cycles-of = λ n φ p. cycles-of p; measured = measured; isomorphic-same = isomorphic-same; isomorphic-measured = isomorphic-measured }
+invariants-hold = record { permutes = permutes; cycles-of = λ n φ p. cycles-of p; measured = measured; outgrown = outgrown; small-known = λ s0 s1 root a P s. known-otherwise s0 s1 root a P (λ A. small-level A s); isomorphic-same = isomorphic-same; isomorphic-measured = isomorphic-measured }

@@ -15,7 +15,8 @@ use Rattle.labelling.specs.Labelling.{event, events, label, relabel, labels, wo
 use Rattle.labelling.specs.Rootings.{leastOf, leastWord, Kept}
 use Rattle.labelling.proofs.OfLists.{spelled-accepted}
 use Rattle.labelling.proofs.Rootings.{accepts-rerooted, kept-least, least-kept}
-use Rattle.invariants_cycles.specs.Cycles.{t, fixedPoints, cycles, longest, period, leastOfCycle}
+use Rattle.invariants_multiples.specs.Multiples.{leastCommonMultiple}
+use Rattle.invariants_cycles.specs.Cycles.{t, fixedPoints, cycles, period, leastOfCycle}
 use Rattle.listing.specs.Listing.{completions, listing, count}
 use Rattle.listing.specs.Position.{wordAt, position}
 use Rattle.listing.specs.Diagrams.{diagramOf, diagramAt}
@@ -68,7 +69,7 @@ rerooted root e (no-path size lengths r blacks whites thrice twice distinct) = n
 -- ---- the table
 
 pub table : Table
-unfolding listing completions letters events-letters decimal digits wordAt diagramAt diagramOf spell spells fixedPoints cycles longest period leastOfCycle t wordOf label events event characteristic labels relabel readAnswer read items upto total visits cells cell position
+unfolding listing completions letters events-letters decimal digits wordAt diagramAt diagramOf spell spells fixedPoints cycles leastCommonMultiple period leastOfCycle t wordOf label events event characteristic labels relabel readAnswer read items upto total visits cells cell position
 table = record {
   a = record { items-are = refl; names-are = refl; diagrams-are = refl };
   b = record { items-are = refl; names-are = refl; diagrams-are = refl };
@@ -89,6 +90,7 @@ table = record {
   l = (size-1-in-32, size-1-only-32);
   upto-3 = (refl, refl);
   sheet-4 = (refl, refl);
+  level-7 = (refl, refl);
 }
 
 -- ---- the edges

@@ -4,25 +4,30 @@
 --   Counts n P m        m of the edges 1..n have the property P
 --   LeastReturn φ x l   l is the least number of steps, from 1 on, after which φ leads x back to x: the length of x's cycle
 --   Lowest φ x          no edge of x's cycle is below x
---   CyclesHold n φ      period, cycles and longest of a permutation φ of 1..n are what they are called
+--   Level n φ m         m is the least positive number that the length of every cycle of φ divides
+--   CyclesHold n φ      period, cycles and the level of a permutation φ of 1..n are what they are called
 --   Means n f g x       the numbers x are the invariants of the diagram with black map f and white map g
--- and from elsewhere: Permutation, iterate, SameCycle, leastOfCycle, period, cycles, longest, cuspMap (crate invariants_cycles, Cycles); Invariants s0 s1 x, the numbers x
--- are e2, e3, c, t and level as crate invariants_cycles defines them, and InvariantsPromise, the promise of the operation (crate invariants, Promises);
+-- and from elsewhere: leastCommonMultiple (crate invariants_multiples, Multiples); Permutation, iterate, SameCycle, leastOfCycle, period, cycles, cycleLengths, cuspMap (crate
+-- invariants_cycles, Cycles); Invariants s0 s1 x, the numbers x are e2, e3, c, t and level as crate invariants_cycles defines them, InvariantsPromise, the promise of the
+-- operation, and invariants-number, the number of its refusal (crate invariants, Promises and Answers);
 -- Isomorphic, Accepts (diagrams); ExactlyOne (Listing).
 use mathlib.Core.Path.{_≡_}
-use mathlib.Core.Logic.{_↔_}
+use mathlib.Core.Logic.{_≢_, _↔_}
 use mathlib.Core.Bool.{true}
 use mathlib.Core.List.{List}
-use Prim.Native.Nat.{ℕ, _+_, _*_, _≤_}
+use Prim.Native.Nat.{ℕ, _+_, _*_, _^_, _≤_, _<_, _∣_}
 use lib.IntN.{subℕ}
 use lib.ListN.{length}
 use Rattle.lists.specs.Lists.{at, Has, Distinct}
 use Rattle.lists.specs.Ranges.{OneTo}
 use Rattle.diagrams.specs.Check.{Accepts}
 use Rattle.diagrams.specs.Isomorphism.{Isomorphic}
-use Rattle.invariants_cycles.specs.Cycles.{Permutation, iterate, SameCycle, leastOfCycle, period, cycles, longest, cuspMap}
+use Rattle.invariants_multiples.specs.Multiples.{leastCommonMultiple}
+use Rattle.invariants_cycles.specs.Cycles.{Permutation, iterate, SameCycle, leastOfCycle, period, cycles, cycleLengths, cuspMap}
 use Rattle.invariants.specs.declared.Numbers.{Numbers}
+use Rattle.invariants.specs.declared.Measured.{Measured}
 use Rattle.invariants.specs.declared.Measured.the-variants.{Known}
+use Rattle.invariants.specs.Answers.{invariants-number}
 use Rattle.invariants.specs.Promises.{Invariants, InvariantsPromise}
 use Rattle.theorems.specs.Listing.{ExactlyOne}
 
@@ -40,6 +45,11 @@ pub record LeastReturn (φ : ℕ → ℕ) (x l : ℕ) : Type 0 where
 abbrev pub Lowest : (ℕ → ℕ) → ℕ → Type 0
 Lowest φ x = (y : ℕ) → SameCycle φ x y → x ≤ y
 
+pub record Level (n : ℕ) (φ : ℕ → ℕ) (m : ℕ) : Type 0 where
+  pub positive : 1 ≤ m
+  pub divided : (x l : ℕ) → OneTo n x → LeastReturn φ x l → l ∣ m
+  pub least : (k : ℕ) → 1 ≤ k → ((x l : ℕ) → OneTo n x → LeastReturn φ x l → l ∣ k) → m ≤ k
+
 pub record CyclesHold (n : ℕ) (φ : ℕ → ℕ) : Type 0 where
   -- the period of an edge is its least return
   pub period-is : (x : ℕ) → OneTo n x → LeastReturn φ x (period n φ x)
@@ -51,9 +61,10 @@ pub record CyclesHold (n : ℕ) (φ : ℕ → ℕ) : Type 0 where
   pub lowest-is : (x : ℕ) → OneTo n x → (leastOfCycle n φ x ≡ true) ↔ Lowest φ x
   -- and `cycles` counts these: each cycle once
   pub cycles-are : Counts n (Lowest φ) (cycles n φ)
-  -- the longest is the period of some edge, and no period is greater
-  pub longest-is : 1 ≤ n → (x : ℕ) × OneTo n x × (longest n φ ≡ period n φ x)
-  pub longest-most : (x : ℕ) → OneTo n x → period n φ x ≤ longest n φ
+  -- the least common multiple of the lengths is the level, and nothing else is; it is at most 2^n
+  pub level-is : Level n φ (leastCommonMultiple (cycleLengths n φ))
+  pub level-only : (m k : ℕ) → Level n φ m → Level n φ k → m ≡ k
+  pub level-bound : leastCommonMultiple (cycleLengths n φ) ≤ 2 ^ n
 
 pub record Means (n : ℕ) (f g : ℕ → ℕ) (x : Numbers) : Type 0 where
   -- e2 and e3 are the numbers of edges that the white map, and the black map, fixes
@@ -62,9 +73,8 @@ pub record Means (n : ℕ) (f g : ℕ → ℕ) (x : Numbers) : Type 0 where
   -- c is the number of cycles of i to f (g i), counted by their lowest edges
   pub c-is : Counts n (Lowest (cuspMap f g)) (x .c)
   pub t-is : x .t ≡ subℕ (12 + n) (3 * x .e2 + 4 * x .e3 + 6 * x .c)
-  -- the level is the length of one of those cycles, and none is longer
-  pub level-is : (i : ℕ) × OneTo n i × LeastReturn (cuspMap f g) i (x .level)
-  pub level-most : (i l : ℕ) → OneTo n i → LeastReturn (cuspMap f g) i l → l ≤ x .level
+  -- the level is the least positive number that the lengths of those cycles divide
+  pub level-is : Level n (cuspMap f g) (x .level)
 
 pub record InvariantsHold : Type 0 where
   -- i to s0(s1(i)) is a permutation of the edges of a diagram; of every permutation, the numbers of its cycles are what they are called
@@ -72,6 +82,11 @@ pub record InvariantsHold : Type 0 where
   pub cycles-of : (n : ℕ) (φ : ℕ → ℕ) → Permutation n φ → CyclesHold n φ
   -- the numbers that the operation answers are the invariants of the diagram given
   pub measured : (s0 s1 : List ℕ) (root : ℕ) (x : Numbers) → InvariantsPromise s0 s1 root (Known x) → Means (length s0) (at s0) (at s1) x
-  -- isomorphic diagrams have the same invariants, and the operation answers the same numbers for them
+  -- it answers 62 exactly where they are a diagram whose level is 2^64 or more, so never of a diagram of fewer than 64 edges
+  pub outgrown : (s0 s1 : List ℕ) (root : ℕ) (a : Measured) → InvariantsPromise s0 s1 root a
+      → (invariants-number a ≡ 62) ↔ (Accepts s0 s1 root × ((m : ℕ) × Level (length s0) (cuspMap (at s0) (at s1)) m × (2 ^ 64 ≤ m)))
+  pub small-known : (s0 s1 : List ℕ) (root : ℕ) (a : Measured) → InvariantsPromise s0 s1 root a → length s0 < 64 → invariants-number a ≢ 62
+  -- isomorphic diagrams have the same invariants, and the operation answers the same for them, 62 too
   pub isomorphic-same : (s0 s1 : List ℕ) (r : ℕ) → Accepts s0 s1 r → (t0 t1 : List ℕ) → Isomorphic s0 s1 t0 t1 → (x : Numbers) → Invariants s0 s1 x → Invariants t0 t1 x
-  pub isomorphic-measured : (s0 s1 : List ℕ) (r : ℕ) (x : Numbers) → InvariantsPromise s0 s1 r (Known x) → (t0 t1 : List ℕ) (q : ℕ) (y : Numbers) → InvariantsPromise t0 t1 q (Known y) → Isomorphic s0 s1 t0 t1 → x ≡ y
+  pub isomorphic-measured : (s0 s1 : List ℕ) (r : ℕ) → Accepts s0 s1 r → (a : Measured) → InvariantsPromise s0 s1 r a
+      → (t0 t1 : List ℕ) (q : ℕ) → Accepts t0 t1 q → (b : Measured) → InvariantsPromise t0 t1 q b → Isomorphic s0 s1 t0 t1 → a ≡ b

@@ -117,6 +117,13 @@ pub record Share (n k j p q : ℕ) : Type 0 where
 abbrev pub four-cells : List ℕ
 four-cells = joined (cellOf (1 ∷ 4 ∷ 0 ∷ []) ∷ cellOf (1 ∷ 0 ∷ []) ∷ cellOf (0 ∷ 2 ∷ []) ∷ (2 ∷ 0 ∷ 2 ∷ 1 ∷ replicate 48 0) ∷ [])
 
+-- a diagram of seven edges: two triangles and an edge that s0 fixes
+abbrev pub black-7 : List ℕ
+black-7 = 2 ∷ 3 ∷ 1 ∷ 5 ∷ 6 ∷ 4 ∷ 7 ∷ []
+
+abbrev pub white-7 : List ℕ
+white-7 = 1 ∷ 4 ∷ 5 ∷ 2 ∷ 3 ∷ 7 ∷ 6 ∷ []
+
 -- ---- the table
 
 pub record Table : Type 0 where
@@ -155,6 +162,8 @@ pub record Table : Type 0 where
   pub upto-3 : (upto.total 3 ≡ 6) × (visits 3 6 ≡ 6)
   -- and a sheet (request U2) of four cells: TJ1W is (f), TW is (j), UB is (b), and UB with a number in its tail is 61
   pub sheet-4 : (sheet.refusals four-cells ≡ 0 ∷ 25 ∷ 0 ∷ 61 ∷ []) × (sheet.positions four-cells ≡ 4 ∷ 0 ∷ 1 ∷ 0 ∷ [])
+  -- and a level (request U3): cycles of the lengths 3 and 4, here of the edges 7 to 1, give 12
+  pub level-7 : (cycles.cycleLengths 7 (cycles.cuspMap (at black-7) (at white-7)) ≡ 4 ∷ 4 ∷ 3 ∷ 4 ∷ 4 ∷ 3 ∷ 3 ∷ []) × (cycles.level 7 (at black-7) (at white-7) ≡ 12)
 
 -- ---- the edges: the last that is taken and the first that is refused
 

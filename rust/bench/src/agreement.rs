@@ -13,6 +13,7 @@ use std::fmt::Debug;
 pub fn all() {
     let mut random = Random(7);
     given(&mut random);
+    levels(&mut random);
     read(&mut random);
     at_positions(&mut random);
     runs(&mut random);
@@ -86,9 +87,7 @@ fn given(random: &mut Random) {
         let by_library = library::check(s0, s1, *root);
         equal("check", &by_library, &same::check::check(s0, s1, *root));
         equal("check", &by_library, &tuned::check::check(s0, s1, *root));
-        let by_library = library::invariants(s0, s1, *root);
-        equal("invariants", &by_library, &same::invariants::invariants(s0, s1, *root));
-        equal("invariants", &by_library, &tuned::invariants::invariants(s0, s1, *root));
+        invariants(&d);
         let by_library = library::kept(s0, s1, *root);
         equal("kept", &by_library, &same::labelling::kept(s0, s1, *root));
         equal("kept", &by_library, &tuned::labelling::kept(s0, s1, *root));
@@ -102,6 +101,29 @@ fn given(random: &mut Random) {
         agree("relabel", out.clone(), by_library, by_same);
         agree("relabel", out, by_library, by_tuned);
     }
+}
+
+fn invariants(Diagram { s0, s1, root }: &Diagram) {
+    let by_library = library::invariants(s0, s1, *root);
+    equal("invariants", &by_library, &same::invariants::invariants(s0, s1, *root));
+    equal("invariants", &by_library, &tuned::invariants::invariants(s0, s1, *root));
+}
+
+/// Large levels, of which some are below 2^64 and some above.
+fn levels(random: &mut Random) {
+    let (mut below, mut above) = (0, 0);
+    for i in 0..2000 {
+        let mut d = random.chain();
+        if i % 3 == 0 {
+            damage(random, &mut d);
+        }
+        invariants(&d);
+        match same::invariants::invariants(&d.s0, &d.s1, d.root) {
+            Ok(x) => below += (x.level >> 56 != 0) as u32,
+            Err(number) => above += (number == 62) as u32,
+        }
+    }
+    assert!(below > 0 && above > 0, "levels of 57 to 64 bits: {below}, and of more: {above}");
 }
 
 fn read(random: &mut Random) {

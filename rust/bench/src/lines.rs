@@ -55,7 +55,7 @@ impl Page {
         }
         self.number(x.t.unsigned_abs() as u64);
         self.byte(b' ');
-        self.number(x.level as u64);
+        self.number(x.level);
         self.byte(b' ');
         self.byte(if kept { b'K' } else { b'-' });
         self.byte(b'\n');

@@ -1,5 +1,6 @@
 //! Repeatable random numbers (splitmix64), and random diagrams.
-use crate::tuned::check::check;
+use crate::table::MAX_SIZE;
+use crate::tuned::{check::check, reading::read_word};
 
 pub struct Random(pub u64);
 
@@ -63,6 +64,23 @@ impl Random {
         }
     }
 
+    /// A diagram with a cycle of each of most of the first 17 primes, so that its level is about 2^64: a chain of rings, each round such a cycle,
+    /// and one cycle more that goes round them all.
+    pub fn chain(&mut self) -> Diagram {
+        let mut word = vec![0];
+        for prime in [2, 3, 5, 7, 11, 13, 17, 19, 23, 29, 31, 37, 41, 43, 47, 53, 59] {
+            if self.below(8) > 0 {
+                word.extend(ring(prime));
+            }
+        }
+        word.push(2 * self.below(2) as u16);
+        let (mut s0, mut s1) = (vec![0; MAX_SIZE], vec![0; MAX_SIZE]);
+        let size = read_word(&word, &mut s0, &mut s1).unwrap();
+        s0.truncate(size);
+        s1.truncate(size);
+        self.renumbered(&Diagram { s0, s1, root: 1 })
+    }
+
     /// The same diagram, its edges numbered anew and rooted anew.
     pub fn renumbered(&mut self, d: &Diagram) -> Diagram {
         let n = d.s0.len();
@@ -74,4 +92,12 @@ impl Random {
         }
         e
     }
+}
+
+/// The items of a ring round a cycle of so many edges: the forks of the chain and of the ring's first vertex, from which the cycle has one edge; a
+/// vertex with its third edge outside, which brings one edge to an even length; vertices with theirs inside, which bring two each; the join that
+/// closes the ring, below the edges inside, which are pending; and the ends of these.
+fn ring(length: usize) -> Vec<u16> {
+    let inside = (length - 1) / 2;
+    [vec![1, 1], [1, 0].repeat(1 - length % 2), vec![1; inside], vec![3 + inside as u16], vec![0; inside]].concat()
 }

@@ -11,6 +11,7 @@ mod blocks;
 mod books;
 mod diagrams;
 mod given;
+mod levels;
 mod listed;
 mod lists;
 mod outcomes;

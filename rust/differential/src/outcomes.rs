@@ -21,7 +21,7 @@ pub struct Difference {
 pub type Compared = Result<(), Box<Difference>>;
 
 /// Every operation with the kinds of its accepted answers and its refusals: each is to be met.
-pub const OPERATIONS: [(&str, &[&str], &[u16]); 35] = [
+pub const OPERATIONS: [(&str, &[&str], &[u16]); 36] = [
     ("check", &["accepted"], GIVEN),
     ("all reached", &["yes", "no"], &[]),
     ("relabel", &["accepted"], &[1, 2, 3, 4, 5, 6, 7, 8, 9]),
@@ -29,7 +29,9 @@ pub const OPERATIONS: [(&str, &[&str], &[u16]); 35] = [
     ("compare unrooted", &["same", "different"], GIVEN),
     ("symmetries", &["one", "more"], GIVEN),
     ("kept", &["yes", "no"], GIVEN),
-    ("invariants", &["accepted"], GIVEN),
+    ("invariants", &["accepted"], &[1, 2, 3, 4, 5, 6, 7, 8, 62]),
+    // invariants of a diagram whose level is from 2^63 to 2^65
+    ("level near 2^64", &["below"], &[62]),
     ("read word", &["accepted"], &[21, 22, 23, 24, 25, 26, 9]),
     ("lesser", &["first", "second"], &[]),
     ("letters", &["accepted"], &[22, 9]),

@@ -14,8 +14,8 @@ pub struct Invariants {
     pub c: u16,
     /// 12 + n - 3·e2 - 4·e3 - 6·c.
     pub t: i32,
-    /// The longest of the cycles.
-    pub level: u16,
+    /// The least common multiple of the cycles' lengths.
+    pub level: u64,
 }
 
 /// Check: refuses 1 to 8.
@@ -77,11 +77,11 @@ pub fn kept(s0: &[u16], s1: &[u16], root: u64) -> Result<bool, Refusal> {
     yes(|kept| raw::kept(s0, s1, root, kept))
 }
 
-/// Invariants. Refuses 1 to 8.
+/// Invariants. Refuses 1 to 8; 62 where the level is 2^64 or more.
 #[inline]
 pub fn invariants(s0: &[u16], s1: &[u16], root: u64) -> Result<Invariants, Refusal> {
     let unwritten = UNWRITTEN as u16;
-    let before = Invariants { e2: unwritten, e3: unwritten, c: unwritten, t: UNWRITTEN as i32, level: unwritten };
+    let before = Invariants { e2: unwritten, e3: unwritten, c: unwritten, t: UNWRITTEN as i32, level: UNWRITTEN };
     let mut measured = before;
     let answer = answered(raw::invariants(s0, s1, root, &mut measured));
     left(answer, measured == before)?;

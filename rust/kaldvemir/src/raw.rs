@@ -24,7 +24,7 @@ extern "C" {
     fn kaldvemir_kept(s0: *const u16, s0_len: usize, s1: *const u16, s1_len: usize, root: u64, kept: *mut u64) -> u16;
     fn kaldvemir_invariants(
         s0: *const u16, s0_len: usize, s1: *const u16, s1_len: usize, root: u64,
-        e2: *mut u16, e3: *mut u16, c: *mut u16, t: *mut i32, level: *mut u16,
+        e2: *mut u16, e3: *mut u16, c: *mut u16, t: *mut i32, level: *mut u64,
     ) -> u16;
     fn kaldvemir_read_word(
         word: *const u16, word_len: usize, s0: *mut u16, s0_len: usize, s1: *mut u16, s1_len: usize, size: *mut u64,

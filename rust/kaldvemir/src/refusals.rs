@@ -68,12 +68,14 @@ pub enum Refusal {
     PositionNotNext = 60,
     /// 61: the sheet's length is no multiple of 52, or a cell's length is above 51 or a number after its word is not 0.
     CellInvalid = 61,
+    /// 62: the level is 2^64 or more.
+    LevelOutside = 62,
 }
 
 use Refusal::*;
 
 /// Every refusal with the words that tell it.
-const REFUSALS: [(Refusal, &str); 31] = [
+const REFUSALS: [(Refusal, &str); 32] = [
     (SizeOutside, "the length of s0 is 0 or above 1,024"),
     (LengthsDiffer, "the lengths of s0 and s1 differ"),
     (RootOutside, "the root is not an edge"),
@@ -105,6 +107,7 @@ const REFUSALS: [(Refusal, &str); 31] = [
     (TicketLapsed, "the ticket has lapsed"),
     (PositionNotNext, "the position is not the next one of the share"),
     (CellInvalid, "the sheet's length is no multiple of 52, or a cell's length is above 51 or its tail is not zero"),
+    (LevelOutside, "the level, the least common multiple of the cycles' lengths, is 2^64 or more"),
 ];
 
 impl Refusal {
@@ -172,12 +175,12 @@ mod tests {
 
     #[test]
     fn every_number_of_01_has_its_refusal() {
-        let numbers: Vec<u16> = (1..=9).chain(21..=26).chain([31, 32, 34, 35]).chain(50..=61).collect();
+        let numbers: Vec<u16> = (1..=9).chain(21..=26).chain([31, 32, 34, 35]).chain(50..=62).collect();
         assert_eq!(numbers.len(), REFUSALS.len());
         for number in 0..=u16::MAX {
             assert_eq!(Refusal::from_number(number).map(Refusal::number), numbers.contains(&number).then_some(number));
         }
-        assert_eq!(Refusal::of(61), CellInvalid);
+        assert_eq!((Refusal::of(61), Refusal::of(62)), (CellInvalid, LevelOutside));
         assert_eq!(Refusal::of(59).to_string(), "refused 59: the ticket has lapsed");
     }
 

@@ -1,5 +1,8 @@
 //! The binding as a caller uses it: cases of 01, a whole run, and a book worked to its end.
+use chain::{chain, ODD_PRIMES};
 use kaldvemir::*;
+
+mod chain;
 
 fn text(word: &[u16]) -> String {
     let mut out = [0; 64];
@@ -20,6 +23,38 @@ fn a_given_diagram() {
     assert_eq!(invariants(&s0, &s1, 3), Ok(Invariants { e2: 2, e3: 1, c: 1, t: 0, level: 4 }));
     assert_eq!((check(&[1, 2], &[1, 2], 1), check(&[1], &[1], 65_537)), (Err(Refusal::NotConnected), Err(Refusal::RootOutside)));
     assert!(all_reached(&[]) && all_reached(&[1, 1]) && !all_reached(&[1, 2]));
+}
+
+/// The diagram of a word.
+fn read(word: &[u16]) -> (Vec<u16>, Vec<u16>) {
+    let (mut s0, mut s1) = (vec![0; 1024], vec![0; 1024]);
+    let size = read_word(word, &mut s0, &mut s1).unwrap();
+    s0.truncate(size);
+    s1.truncate(size);
+    (s0, s1)
+}
+
+/// Cycles of 3 and 4 edges, of 2 and 5, and of 1, 2, 3 and 6.
+#[test]
+fn levels() {
+    let level = |word: &[u16]| {
+        let (s0, s1) = read(word);
+        invariants(&s0, &s1, 1).map(|given| (given.c, given.level))
+    };
+    assert_eq!((level(&[0, 1, 1, 4, 0]), level(&[0, 1, 1, 0, 3])), (Ok((2, 12)), Ok((2, 10))));
+    assert_eq!(level(&[1, 1, 1, 1, 3, 5, 3]), Ok((4, 6)));
+}
+
+/// The product of the odd primes to 53 fits 64 bits, twice it does not: a cycle of 258 edges brings the factor 2, one of 259 brings none.
+#[test]
+fn levels_on_either_side_of_64_bits() {
+    let product: u128 = ODD_PRIMES.iter().map(|prime| u128::from(*prime)).product();
+    let ((s0, s1), (t0, t1)) = (read(&chain(&ODD_PRIMES, 2)), read(&chain(&ODD_PRIMES, 0)));
+    let given = invariants(&s0, &s1, 1).unwrap();
+    assert_eq!((s0.len(), given.c, u128::from(given.level)), (638, 16, product));
+    assert_eq!((t0.len(), invariants(&t0, &t1, 1)), (637, Err(Refusal::LevelOutside)));
+    assert!(product < 1 << 64 && 2 * product > 1 << 64);
+    assert_eq!((invariants(&t0, &t1, 0), invariants(&t0, &t1[1..], 1)), (Err(Refusal::RootOutside), Err(Refusal::LengthsDiffer)));
 }
 
 #[test]
@@ -171,6 +206,13 @@ fn rows_refused_or_none() {
             assert_eq!((rows_of(&mut run, asked, room), &run), ((Err(Refusal::RunInvalid), ".".repeat(room)), &before));
         }
     }
+}
+
+/// The ninth field is the level: cycles of 3 and 4 edges.
+#[test]
+fn a_row_with_its_level() {
+    let (answer, bytes) = rows_of(&mut Run::begin_at(7, 5).unwrap(), 1, row_bytes(7));
+    assert_eq!(&bytes[..answer.unwrap().bytes], "6 UFFJ1W 1,3,4,2,6,7,5 2,1,7,5,4,6,3 1 1 2 0 12 K\n");
 }
 
 /// The least bytes that are enough by the bound, at the last rows of the largest size.

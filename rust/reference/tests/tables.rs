@@ -57,6 +57,13 @@ fn census_of_size_3() {
     assert_eq!(run, Run::at(3, 4));
 }
 
+/// A row whose cycles have 3 and 4 edges.
+#[test]
+fn a_row_with_its_level() {
+    let row = "6 UFFJ1W 1,3,4,2,6,7,5 2,1,7,5,4,6,3 1 1 2 0 12 K\n";
+    assert_eq!(Run::at(7, 5).rows(1, 103), Ok(Rows { rows: 1, text: row.bytes().collect(), kept: 1 }));
+}
+
 #[test]
 fn relabelling_and_refusals_by_hand() {
     let written = Written { s0: vec![2, 3, 1, 4], s1: vec![1, 2, 4, 3], word: vec![1, 2, 0, 0] };

@@ -32,9 +32,6 @@ put-byte-requires c κs = search needs
 put-signed-requires : tie.Need-put-signed-requires
 put-signed-requires c κs = search needs
 
-cast-put-number-field-4 : tie.Need-cast-put-number-field-4
-cast-put-number-field-4 c = search needs
-
 put-number-field-requires-4 : tie.Need-put-number-field-requires-4
 put-number-field-requires-4 c κs = search needs
 
@@ -43,7 +40,7 @@ same-length c = search needs
 
 returns : tie.Need-returns
 unfolding numbersPieces
-returns c = put-all-then _ _ _ _ _ (c .before .before .before .before .before .before .before .before .before .before .before .before .before .before .before .before .before .before .before .before .before .before .before .before .before .before .put-number-field .ensures) (put-all-then _ _ _ _ _ (c .before .before .before .before .before .before .before .before .before .before .before .before .before .before .before .before .before .before .before .before .before .put-number-field2 .ensures) (put-all-then _ _ _ _ _ (c .before .before .before .before .before .before .before .before .before .before .before .before .before .before .before .before .put-number-field3 .ensures) (put-all-then _ _ _ _ _ (puts-then _ _ _ _ _ (c .before .before .before .before .before .before .before .before .before .before .before .before .put-byte .ensures) (signed-same _ _ _ _ (toZ-ofZ w32 _ record { sfits = c .before .before .before .before .before .before .before .before .struct-told .given .1 .1 .1 .0 .1 }) (c .before .before .before .before .before .before .before .put-signed .ensures))) ((c .before .before .put-number-field4 .ensures)))))
+returns c = put-all-then _ _ _ _ _ (c .before .before .before .before .before .before .before .before .before .before .before .before .before .before .before .before .before .before .before .before .before .before .before .before .before .put-number-field .ensures) (put-all-then _ _ _ _ _ (c .before .before .before .before .before .before .before .before .before .before .before .before .before .before .before .before .before .before .before .before .put-number-field2 .ensures) (put-all-then _ _ _ _ _ (c .before .before .before .before .before .before .before .before .before .before .before .before .before .before .before .put-number-field3 .ensures) (put-all-then _ _ _ _ _ (puts-then _ _ _ _ _ (c .before .before .before .before .before .before .before .before .before .before .before .put-byte .ensures) (signed-same _ _ _ _ (toZ-ofZ w32 _ record { sfits = c .before .before .before .before .before .before .before .struct-told .given .1 .1 .1 .0 .1 }) (c .before .before .before .before .before .before .put-signed .ensures))) ((c .before .before .put-number-field4 .ensures)))))
 
 pub put-numbers-spec : {M : Type 1} → statement M
 put-numbers-spec =
@@ -57,7 +54,6 @@ put-numbers-spec =
     put-number-field-requires-3
     put-byte-requires
     put-signed-requires
-    cast-put-number-field-4
     put-number-field-requires-4
     same-length
     returns)

@@ -1,20 +1,20 @@
--- Count cycles: with the edges 1..i done, their cycles are marked and counted, and the longest of them is known.
+-- Count cycles: with the edges 1..i done, their cycles are marked and counted, and the least common multiple of their lengths is known.
 use native.Mathlib.Omega.{arith}
-use Prim.Native.Nat.{_-_}
+use Prim.Native.Nat.{_+_, _-_}
 use borrow.Author.Needs.{needs}
 use lib.ListN.{length}
 use Rattle.lists.specs.Lists.{at}
 use Rattle.invariants_cycles.specs.Cycles.{Permutation, cuspMap}
-use Rattle.invariants_cycles.proofs.Cycles.{around-perm}
+use Rattle.invariants_cycles.proofs.Cycles.{around-perm, period-is}
 use Rattle.invariants_counting.proofs.Counts.{Counted, count-start, count-few, count-end, count-skip, count-new}
 use Rattle.invariants_counting.proofs.count_cycles.Statement.{statement}
 use Rattle.invariants_counting.proofs.count_cycles.Tie as tie
 
 abbrev Inv-loop : tie.InvT-loop
-Inv-loop s0 s1 seen₀ count₀ longest₀ i₀ seen count longest i = Counted (length s0) (cuspMap (at s0) (at s1)) seen count longest i
+Inv-loop s0 s1 seen₀ count₀ level₀ i₀ seen count level i = Counted (length s0) (cuspMap (at s0) (at s1)) seen count level i
 
 abbrev μ-loop : tie.MeasureT-loop
-μ-loop s0 s1 seen₀ count₀ longest₀ i₀ seen count longest i = length s0 - i
+μ-loop s0 s1 seen₀ count₀ level₀ i₀ seen count level i = length s0 - i
 
 perm : (c : tie.Start Inv-loop μ-loop) → Permutation (length (c .args .s0 .now)) (cuspMap (at (c .args .s0 .now)) (at (c .args .s1 .now)))
 perm c = around-perm (c .pre .maps)
@@ -34,16 +34,20 @@ walk-requires c κs = (c .before .before .before .before .before .before .pre, (
 add-count : tie.Need-add-count Inv-loop μ-loop
 add-count c = let few = count-few (c .before .before .before .before .loop .inv) in omega (arith, c .before .before .before .loop-test .taken, c .before .before .before .before .before .before .before .pre .size)
 
-larger-requires : tie.Need-larger-requires Inv-loop μ-loop
-larger-requires c κs = search needs
+cast-common-multiple : tie.Need-cast-common-multiple Inv-loop μ-loop
+cast-common-multiple c = search needs
+
+common-multiple-requires : tie.Need-common-multiple-requires Inv-loop μ-loop
+common-multiple-requires c κs =
+    let i = period-is (perm (c .before .before .before .before .before .before .before)) (c .before .before .before .before .loop .i + 1) (omega (arith, c .before .before .before .loop-test .taken)) .some in
+    omega (arith, i, c .walk .ensures .0)
 
 loop-less : tie.Need-loop-less Inv-loop μ-loop
 loop-less c = search needs
 
 loop-again : tie.Need-loop-again Inv-loop μ-loop
 loop-again c =
-    rw (c .larger .ensures)
-    (count-new
+    count-new
     (c .before .before .before .before .before .loop .inv)
     (perm (c .before .before .before .before .before .before .before .before))
     (c .before .before .before .before .loop-test .taken)
@@ -51,7 +55,9 @@ loop-again c =
     (c .before .walk .last .1 .1 .0)
     (c .before .walk .ensures .1)
     _
-    (c .before .walk .ensures .0))
+    _
+    (c .before .walk .ensures .0)
+    (c .common-multiple .ensures)
 
 loop-less-2 : tie.Need-loop-less-2 Inv-loop μ-loop
 loop-less-2 c = search needs
@@ -73,7 +79,8 @@ count-cycles-spec =
     add-i
     walk-requires
     add-count
-    larger-requires
+    cast-common-multiple
+    common-multiple-requires
     loop-less
     loop-again
     loop-less-2

@@ -35,7 +35,7 @@ use Rattle.labelling_operations.specs.Promises.{RelabelPromise, CharacteristicP
 use Rattle.invariants.specs.declared.Numbers.{Numbers}
 use Rattle.invariants.specs.declared.Measured.{Measured}
 use Rattle.invariants.specs.declared.Measured.the-variants as measured
-use Rattle.invariants.specs.Promises.{Invariants, InvariantsPromise}
+use Rattle.invariants.specs.Promises.{Invariants, Outgrown, InvariantsPromise}
 use Rattle.listing.specs.Listing.{count}
 use Rattle.listing_ranking.specs.declared.Total.{Total}
 use Rattle.listing_ranking.specs.declared.Total.the-variants as total
@@ -218,10 +218,12 @@ numbers-once x y i = record {
 }
 
 pub invariants-once : (s0 s1 : List ℕ) (root : ℕ) (r q : Measured) → InvariantsPromise s0 s1 root r → InvariantsPromise s0 s1 root q → r ≡ q
-invariants-once s0 s1 root (measured.Known r) (measured.Known q) x y = ap measured.Known (numbers-once (x .1) (y .1))
-invariants-once s0 s1 root (measured.Known r) (measured.Refused k) x y = absurd (not-both (x .0) y)
-invariants-once s0 s1 root (measured.Refused k) (measured.Known q) x y = absurd (not-both (y .0) x)
-invariants-once s0 s1 root (measured.Refused j) (measured.Refused k) x y = ap measured.Refused (refused-once x y)
+invariants-once s0 s1 root (measured.Known r) (measured.Known q) x y = ap measured.Known (numbers-once (x .2) (y .2))
+invariants-once s0 s1 root (measured.Known r) (measured.Refused k) x (inl y) = absurd (not-both (x .0) y)
+invariants-once s0 s1 root (measured.Known r) (measured.Refused k) x (inr y) = absurd (x .1 (y .2))
+invariants-once s0 s1 root (measured.Refused k) (measured.Known q) (inl x) y = absurd (not-both (y .0) x)
+invariants-once s0 s1 root (measured.Refused k) (measured.Known q) (inr x) y = absurd (y .1 (x .2))
+invariants-once s0 s1 root (measured.Refused j) (measured.Refused k) x y = ap measured.Refused (later-once (Outgrown s0 s1) 62 j k x y)
 
 -- ---- count, diagram at a position, position of a diagram
 

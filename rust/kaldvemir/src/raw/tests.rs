@@ -1,5 +1,9 @@
 //! Refused calls at the boundary: every out-value, list, run and book is left as it was. A mark stands in each of them before the call.
 use super::*;
+use chain::{chain, ODD_PRIMES};
+
+#[path = "../../tests/chain/mod.rs"]
+mod chain;
 
 const MARK: u16 = 0xBEEF;
 const WIDE: u64 = 0xDEAD_BEEF_DEAD_BEEF;
@@ -36,10 +40,24 @@ fn refused_diagrams() {
         assert_eq!(kept(s0, s1, root, &mut out), number);
         assert_eq!(position(s0, s1, root, &mut out), number);
         assert_eq!((lists, out), ([[MARK; 8]; 3], WIDE));
-        let before = Invariants { e2: MARK, e3: MARK, c: MARK, t: -7, level: MARK };
-        let mut measured = before;
-        assert_eq!(invariants(s0, s1, root, &mut measured), number);
-        assert_eq!(measured, before);
+        refused_invariants((s0, s1, root), number);
+    }
+}
+
+fn refused_invariants((s0, s1, root): Lent, number: u16) {
+    let before = Invariants { e2: MARK, e3: MARK, c: MARK, t: -7, level: WIDE };
+    let mut measured = before;
+    assert_eq!((invariants(s0, s1, root, &mut measured), measured), (number, before));
+}
+
+/// A diagram whose level is above 2^64, and with what check refuses besides.
+#[test]
+fn refused_levels() {
+    let (mut s0, mut s1, mut size) = ([0; 1024], [0; 1024], WIDE);
+    assert_eq!(read_word(&chain(&ODD_PRIMES, 0), &mut s0, &mut s1, &mut size), 0);
+    let (s0, s1) = (&s0[..size as usize], &s1[..size as usize]);
+    for (lent, number) in [((s0, s1, 1), 62), ((s0, s1, size), 62), ((s0, &s1[1..], 1), 2), ((s0, s1, 0), 3), ((s0, s0, 1), 7)] {
+        refused_invariants(lent, number);
     }
 }
 

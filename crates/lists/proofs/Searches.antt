@@ -4,8 +4,8 @@ use mathlib.Core.Logic.{_≢_, _⊎_, inl, inr}
 use mathlib.Core.Bool.{Bool, true, false, cond}
 use Prim.Native.Nat.{ℕ, zero, suc, _+_, _≤_, _<_}
 use native.Mathlib.Omega.{arith}
+use Rattle.lists.specs.Ranges.{firstPassing}
 use Rattle.lists.proofs.Tests.{same?}
-use Rattle.invariants_cycles.specs.Cycles.{firstPassing}
 
 -- r is the first of the m numbers from k on that passes the test t
 pub record First (m : ℕ) (t : ℕ → Bool) (k r : ℕ) : Type 0 where

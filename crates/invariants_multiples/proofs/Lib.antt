@@ -1,0 +1,3 @@
+pub mod Multiples
+pub mod Divisors
+pub mod Holding
