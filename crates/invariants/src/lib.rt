@@ -48,7 +48,13 @@ fn measure(s0: &[u16], s1: &[u16]) -> Measured
         return Measured::Refused(62);
     }
     let t = t(s0.len(), to_index(e2), to_index(e3), to_index(c));
-    Measured::Known(Numbers { e2, e3, c, t, level })
+    Measured::Known(Numbers {
+        e2,
+        e3,
+        c,
+        t,
+        level,
+    })
 }
 
 // The invariants of a lent diagram, or check's refusal, or 62.

@@ -32,7 +32,7 @@ after-step : (φ : ℕ → ℕ) (k x : ℕ) → iterate φ k (φ x) ≡ φ (iter
 after-step φ zero x = refl
 after-step φ (suc k) x = ap φ (after-step φ k x)
 
-after-add : (φ : ℕ → ℕ) (a b x : ℕ) → iterate φ (a + b) x ≡ iterate φ a (iterate φ b x)
+pub after-add : (φ : ℕ → ℕ) (a b x : ℕ) → iterate φ (a + b) x ≡ iterate φ a (iterate φ b x)
 after-add φ zero b x = ap (λ i. iterate φ i x) (none b)
   where
     none : (b : ℕ) → 0 + b ≡ b

@@ -20,6 +20,7 @@ use Rattle.invariants_cycles.specs.Cycles.{Permutation, SameCycle, leastOfCycle
 use Rattle.invariants_cycles.proofs.Cycles as laws
 use Rattle.invariants_cycles.proofs.Levels as levels
 use Rattle.invariants_cycles.proofs.LevelBound.{level-bound}
+use Rattle.invariants_cycles.proofs.Orders.{level-order}
 use Rattle.invariants_cycles.proofs.InvariantsIsomorphic.{invariants-isomorphic}
 use Rattle.invariants.specs.declared.Numbers.{Numbers}
 use Rattle.invariants.specs.declared.Measured.{Measured}
@@ -75,7 +76,12 @@ least-return {φ} {x} {l} P = record { some = P .some; back = P .back; least = �
     go k i e (inr h) = h
 
 level-only : {n : ℕ} {φ : ℕ → ℕ} {m k : ℕ} → Level n φ m → Level n φ k → m ≡ k
-level-only {n} {φ} {m} {k} L K = let a = L .least k (K .positive) (K .divided) in let b = K .least m (L .positive) (L .divided) in omega arith
+level-only {n} {φ} {m} {k} L K =
+    let p = L .positive in
+    let q = K .positive in
+    let a = L .least k (omega arith) (K .divided) in
+    let b = K .least m (omega arith) (L .divided) in
+    omega arith
 
 module _ {n : ℕ} {φ : ℕ → ℕ} (p : Permutation n φ) where
   one-lowest : (x : ℕ) → OneTo n x → ExactlyOne n (λ y. SameCycle φ x y × Lowest φ y)
@@ -129,6 +135,7 @@ module _ {n : ℕ} {φ : ℕ → ℕ} (p : Permutation n φ) where
     cycles-are = cycles-are;
     level-is = level-is;
     level-only = λ m k. level-only;
+    level-order = level-order p;
     level-bound = level-bound p;
   }
 

@@ -61,9 +61,11 @@ pub record CyclesHold (n : ℕ) (φ : ℕ → ℕ) : Type 0 where
   pub lowest-is : (x : ℕ) → OneTo n x → (leastOfCycle n φ x ≡ true) ↔ Lowest φ x
   -- and `cycles` counts these: each cycle once
   pub cycles-are : Counts n (Lowest φ) (cycles n φ)
-  -- the least common multiple of the lengths is the level, and nothing else is; it is at most 2^n
+  -- the least common multiple of the lengths is the level, and nothing else is
   pub level-is : Level n φ (leastCommonMultiple (cycleLengths n φ))
   pub level-only : (m k : ℕ) → Level n φ m → Level n φ k → m ≡ k
+  -- it is the order of φ: φ applied k times moves no edge exactly where the level divides k
+  pub level-order : (k : ℕ) → (leastCommonMultiple (cycleLengths n φ) ∣ k) ↔ ((x : ℕ) → OneTo n x → iterate φ k x ≡ x)
   pub level-bound : leastCommonMultiple (cycleLengths n φ) ≤ 2 ^ n
 
 pub record Means (n : ℕ) (f g : ℕ → ℕ) (x : Numbers) : Type 0 where

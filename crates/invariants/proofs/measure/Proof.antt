@@ -64,19 +64,22 @@ returns : tie.Need-returns
 returns c = (refl, held-zero (c .before .count-cycles .ensures .1) (c .if1 .taken))
 
 returns-2 : tie.Need-returns-2
-returns-2 c = (λ far. let few = held (c .before) .1 in omega arith, record {
-  e2-is = e2-is (c .before);
-  e3-is = e3-is (c .before);
-  c-is = c-is (c .before);
-  t-is =
-      toZ-ofZ w32 (c .t .result) record { sfits = c .t .ok }
-      ∙ c .t .ensures
-      ∙ t-of (length (s0 (c .before))) (at (s0 (c .before))) (at (s1 (c .before))) _ _ _
-      (c .before .before .before .to-index .ensures ∙ e2-is (c .before))
-      (c .before .before .to-index2 .ensures ∙ e3-is (c .before))
-      (c .before .to-index3 .ensures ∙ c-is (c .before));
-  level-is = held (c .before) .2;
-})
+returns-2 c = (
+  λ far. let few = held (c .before) .1 in omega arith,
+  record {
+    e2-is = e2-is (c .before);
+    e3-is = e3-is (c .before);
+    c-is = c-is (c .before);
+    t-is =
+        toZ-ofZ w32 (c .t .result) record { sfits = c .t .ok }
+        ∙ c .t .ensures
+        ∙ t-of (length (s0 (c .before))) (at (s0 (c .before))) (at (s1 (c .before))) _ _ _
+        (c .before .before .before .to-index .ensures ∙ e2-is (c .before))
+        (c .before .before .to-index2 .ensures ∙ e3-is (c .before))
+        (c .before .to-index3 .ensures ∙ c-is (c .before));
+    level-is = held (c .before) .2;
+  },
+)
 
 pub measure-spec : {M : Type 1} → statement M
 measure-spec =
