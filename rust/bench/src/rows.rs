@@ -9,11 +9,12 @@ pub mod whole;
 use crate::timing::{Row, Work};
 
 /// The name of each row, and how it is set up.
-pub const ROWS: [(&str, fn() -> Row); 32] = [
+pub const ROWS: [(&str, fn() -> Row); 33] = [
     ("check 1024", given::check),
     ("read word 1024", given::read_word),
     ("relabel 1024", given::relabel_large),
     ("relabel 50", given::relabel_listed),
+    ("invariants, level about 2^64", given::invariants),
     ("diagram at a position 50", listing::diagram_at),
     ("position 50", listing::position),
     ("kept 24, a stretch of the list", listing::kept_stretch),

@@ -5,6 +5,7 @@ use crate::random::{Diagram, Random};
 use crate::table::count_of;
 use crate::timing::Row;
 use crate::library;
+use kaldvemir::Invariants;
 use std::hint::black_box;
 use std::rc::Rc;
 
@@ -29,6 +30,7 @@ pub fn listed(count: usize) -> Rc<Vec<Diagram>> {
 
 type Check = fn(&[u16], &[u16], u64) -> Result<(), u16>;
 type Relabel = fn(&[u16], &[u16], u64, &mut [u16], &mut [u16], &mut [u16]) -> Result<usize, u16>;
+type Measure = fn(&[u16], &[u16], u64) -> Result<Invariants, u16>;
 type ReadWord = fn(&[u16], &mut [u16], &mut [u16]) -> Result<usize, u16>;
 
 pub fn check() -> Row {
@@ -38,6 +40,17 @@ pub fn check() -> Row {
         move || inputs.iter().map(|d| f(black_box(&d.s0), &d.s1, d.root).is_ok() as u64).sum()
     };
     row("check 1024", 64, work(library::check), work(same::check::check), work(tuned::check::check))
+}
+
+/// Diagrams of some 650 edges with up to 18 cycles.
+pub fn invariants() -> Row {
+    let mut random = Random(3);
+    let inputs: Rc<Vec<Diagram>> = Rc::new((0..64).map(|_| random.chain()).collect());
+    let work = |f: Measure| {
+        let inputs = inputs.clone();
+        move || inputs.iter().map(|d| f(black_box(&d.s0), &d.s1, d.root).map_or(0, |x| x.level >> 16)).sum()
+    };
+    row("invariants, level about 2^64", 64, work(library::invariants), work(same::invariants::invariants), work(tuned::invariants::invariants))
 }
 
 fn relabel(name: &'static str, inputs: Rc<Vec<Diagram>>) -> Row {
