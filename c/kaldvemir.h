@@ -92,8 +92,8 @@ uint16_t kaldvemir_symmetries(const uint16_t *s0, size_t s0_len, const uint16_t 
 /* Kept: *kept is 1 where the diagram's word is the least among those of its rootings, otherwise 0. 1 to 8. */
 uint16_t kaldvemir_kept(const uint16_t *s0, size_t s0_len, const uint16_t *s1, size_t s1_len, uint64_t root, uint64_t *kept);
 
-/* Invariants: edges fixed by s1 and by s0, cycles of i to s0(s1(i)), 12 + n - 3 e2 - 4 e3 - 6 c, and the least common multiple of the
- * cycles' lengths. 1 to 8; 62 the last is 2^64 or more, which no diagram of fewer than 64 edges is refused for. */
+/* Invariants: edges fixed by s1 and by s0, cycles of i to s0(s1(i)), 12 + n - 3 e2 - 4 e3 - 6 c, and the level, which is the least common
+ * multiple of the cycles' lengths. 1 to 8; 62 the level is 2^64 or more (never with fewer than 64 edges). */
 uint16_t kaldvemir_invariants(const uint16_t *s0, size_t s0_len, const uint16_t *s1, size_t s1_len, uint64_t root,
                               uint16_t *e2, uint16_t *e3, uint16_t *c, int32_t *t, uint64_t *level);
 

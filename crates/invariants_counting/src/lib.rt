@@ -1,5 +1,5 @@
-// What the invariants of a diagram count: the edges that a list fixes, and the cycles of i to s0(s1(i)). The lists are known to be maps of
-// the edges.
+// What the invariants of a diagram count: the edges that a list fixes, and the cycles of i to s0(s1(i)), with the least common multiple of their
+// lengths. The lists are known to be maps of the edges.
 use diagrams::Diagram;
 use invariants_multiples::common_multiple;
 use lists::to_index;

@@ -1,10 +1,9 @@
 -- Laws of the level: it is the least common multiple of the cycles' lengths, which are positive, and a one-to-one map that carries the
 -- permutation φ to ψ does not lower it.
-use mathlib.Core.Path.{_≡_}
 use mathlib.Core.List.{map}
 use Prim.Native.Nat.{ℕ, _≤_}
 use native.Mathlib.Omega.{arith}
-use Rattle.lists.specs.Ranges.{OneTo, down}
+use Rattle.lists.specs.Ranges.{down}
 use Rattle.lists.proofs.Ranges.{has-values, values-has}
 use Rattle.invariants_multiples.specs.Multiples.{CommonMultiple, LeastCommonMultiple, leastCommonMultiple}
 use Rattle.invariants_multiples.proofs.Multiples.{Positive, lcm-is}

@@ -1,8 +1,8 @@
 -- The level is the order of the permutation: an edge comes back after k steps exactly if its cycle's length divides k, so all of them do
 -- exactly if the level divides k.
-use mathlib.Core.Path.{_≡_, refl, sym, ap, _∙_}
+use mathlib.Core.Path.{_≡_, sym, ap, _∙_}
 use mathlib.Core.Logic.{_≢_, _⊎_, inl, inr, _↔_}
-use Prim.Native.Nat.{ℕ, zero, suc, _+_, _*_, _/_, _%_, _∣_}
+use Prim.Native.Nat.{ℕ, zero, suc, _*_, _/_, _%_, _∣_}
 use native.Mathlib.Nat.{add-comm, suc-mul, mod-lt, div-add-mod', dvd-trans, dvd-of-mod-eq-zero, div-mul-cancel}
 use native.Mathlib.Omega.{arith}
 use Rattle.lists.specs.Ranges.{OneTo}

@@ -1,11 +1,10 @@
 -- Euclid's step, and the least common multiple of two numbers by their greatest common divisor.
-use mathlib.Core.Path.{_≡_, refl, sym, ap, _∙_}
-use mathlib.Core.Logic.{_⊎_, inl, inr}
-use mathlib.Core.List.{List, [], _∷_}
-use Prim.Native.Nat.{ℕ, _*_, _/_, _%_, _≤_, _<_, _∣_}
+use mathlib.Core.Path.{_≡_, refl, ap, _∙_}
+use mathlib.Core.Logic.{inl, inr}
+use mathlib.Core.List.{[], _∷_}
+use Prim.Native.Nat.{ℕ, _*_, _/_, _%_, _≤_, _∣_}
 use native.Mathlib.Nat.{mul-comm, mul-right-comm, mul-pos, mul-le-mul-right, le-of-mul-le-mul-right, dvd-refl, dvd-zero, dvd-mul-left, dvd-mul-right, dvd-mod-iff, le-of-dvd, pos-of-dvd-of-pos, div-mul-cancel, dvd-of-mul-dvd-mul-right, mul-dvd-mul-left}
 use native.Mathlib.Omega.{arith}
-use Rattle.lists.specs.Lists.{Has}
 use Rattle.invariants_multiples.specs.Multiples.{CommonMultiple, LeastCommonMultiple, GreatestCommonDivisor, leastCommonMultiple}
 use Rattle.invariants_multiples.proofs.Multiples.{Positive, lcm-is, lcm-divides}
 

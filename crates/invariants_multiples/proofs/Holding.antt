@@ -1,13 +1,13 @@
 -- A least common multiple as a 64-bit number. One that has outgrown 64 bits divides every later one, so that it does not come back.
-use mathlib.Core.Path.{_≡_, refl, sym, ap, _∙_}
-use mathlib.Core.Logic.{_≢_, _⊎_, inl, inr}
-use mathlib.Core.List.{List, [], _∷_}
+use mathlib.Core.Path.{_≡_, refl, sym}
+use mathlib.Core.Logic.{_≢_, inl, inr}
+use mathlib.Core.List.{[], _∷_}
 use Prim.Native.Nat.{ℕ, _*_, _/_, _^_, _≤_, _<_}
 use native.Mathlib.Nat.{mul-le-mul-right, div-mul-le-self, div-lt-iff-lt-mul, le-of-dvd}
 use native.Mathlib.Omega.{arith}
 use Rattle.invariants_multiples.specs.Multiples.{LeastCommonMultiple, GreatestCommonDivisor, leastCommonMultiple, Held}
 use Rattle.invariants_multiples.proofs.Multiples.{lcm-is}
-use Rattle.invariants_multiples.proofs.Divisors.{two-positive, gcd-positive, lcm-by-gcd}
+use Rattle.invariants_multiples.proofs.Divisors.{two-positive, lcm-by-gcd}
 
 abbrev largest : ℕ
 largest = 18446744073709551615

@@ -2,10 +2,10 @@
 -- from that of the one.
 use mathlib.Core.Path.{_≡_, refl, sym, _∙_}
 use mathlib.Core.Logic.{_≢_, _⊎_, inl, inr}
-use mathlib.Core.Bool.{Bool, true, false, true≢false, cond}
+use mathlib.Core.Bool.{true, false, true≢false}
 use mathlib.Core.List.{List, [], _∷_}
-use Prim.Native.Nat.{ℕ, _+_, _*_, _%_, _≤_, _<_, _∣_}
-use native.Mathlib.Nat.{mod-lt, mul-pos, dvd-refl, dvd-mul-right, dvd-mul-left-of-dvd, dvd-trans, dvd-mod-iff, dvd-of-mod-eq-zero, mod-eq-zero-of-dvd}
+use Prim.Native.Nat.{ℕ, _+_, _%_, _≤_, _<_, _∣_}
+use native.Mathlib.Nat.{mod-lt, mul-pos, dvd-mul-right, dvd-mul-left-of-dvd, dvd-trans, dvd-mod-iff, dvd-of-mod-eq-zero, mod-eq-zero-of-dvd}
 use native.Mathlib.Omega.{arith}
 use lib.Dec.{eqb}
 use Rattle.lists.specs.Lists.{Has}
