@@ -9,12 +9,12 @@ use native.Mathlib.Omega.{arith}
 use lib.Dec.{leb, ltb}
 use lib.ListN.{length, length-replicate}
 use Rattle.lists.specs.Lists.{Has, Distinct}
-use Rattle.lists.specs.Ranges.{OneTo}
+use Rattle.lists.specs.Ranges.{OneTo, sum}
 use Rattle.lists.proofs.Tests.{le-true, le-false, lt-true, ltb-true, same?, lt?}
 use Rattle.lists.proofs.Lists.{length-listed, at-listed, at-zeros, length-1, has-snoc, snoc-has, distinct-snoc}
-use Rattle.lists.proofs.Ranges.{every-true, true-every}
+use Rattle.lists.proofs.Ranges.{every-true, true-every, sum-zero}
 use Rattle.book.specs.declared.types.Book.{Book}
-use Rattle.book.specs.Shares.{first, last, next, finished, done, sum, committed, complete}
+use Rattle.book.specs.Shares.{first, last, next, finished, done, committed, complete}
 use Rattle.book.specs.Calls.{opened}
 use Rattle.book.specs.Holding.{ShareHolds}
 use Rattle.book.proofs.Partition.{last-le, share-once}
@@ -64,10 +64,6 @@ sum-one (suc m) s t i e q r = go (same? i (suc m)) (sum-one m s t i)
         let x = k (omega arith) q (λ j u. r j (omega arith)) in
         let y = r (suc m) (omega arith) (λ w. z (sym w)) in
         omega arith
-
-sum-zero : (m : ℕ) (s : ℕ → ℕ) → ((j : ℕ) → OneTo m j → s j ≡ 0) → sum m s ≡ 0
-sum-zero zero s e = refl
-sum-zero (suc m) s e = let x = sum-zero m s (λ j i. e j (omega arith)) in let y = e (suc m) (omega arith) in omega arith
 
 -- ---- opening
 

@@ -14,7 +14,7 @@ use mathlib.Core.Bool.{Bool, true, false, cond}
 use Prim.Native.Nat.{ℕ, zero, suc, _+_, _-_, _*_, _/_, pred}
 use lib.Dec.{eqb, leb, ltb}
 use Rattle.lists.specs.Lists.{at}
-use Rattle.lists.specs.Ranges.{every}
+use Rattle.lists.specs.Ranges.{every, sum}
 use Rattle.listing.specs.Listing.{count}
 use Rattle.book.specs.declared.types.Book.{Book}
 
@@ -41,11 +41,6 @@ finished b j = ltb (last (b .size) (b .shares) j) (next b j)
 
 unfoldable pub done : Book → ℕ → ℕ
 done b j = next b j - first (b .size) (b .shares) j
-
--- t 1 + .. + t n
-abbrev pub sum : ℕ → (ℕ → ℕ) → ℕ
-sum zero t = 0
-sum (suc n) t = t (suc n) + sum n t
 
 -- what the report tells: the progress
 unfoldable pub committed : Book → ℕ

@@ -19,7 +19,7 @@ use Rattle.invariants_multiples.proofs.Holding.{held-one}
 use Rattle.invariants_cycles.specs.Cycles.{Permutation, SameCycle, leastOfCycle, cycles, period, cycleLengths}
 use Rattle.invariants_cycles.proofs.Cycles.{same-trans, same-sym, same-in, not-least, below-least}
 use Rattle.invariants_cycles.proofs.Carried.{period-same}
-use Rattle.invariants_cycles.proofs.Levels.{lengths-positive}
+use Rattle.invariants_cycles.proofs.Levels.{lengths-positive, lengths-level}
 use Rattle.invariants_counting.specs.Marks.{MarkedExactly, CycleMarked}
 use Rattle.invariants_counting.proofs.Walks.{marked-as}
 
@@ -53,10 +53,10 @@ module _ {n : ℕ} {φ : ℕ → ℕ} {seen : List ℕ} {count level i : ℕ} (k
   module _ (p : Permutation n φ) (more : i < n) where
     -- the least common multiple of the lengths so far, and with the next one
     so-far : LeastCommonMultiple (map (period n φ) (down i)) (leastCommonMultiple (map (period n φ) (down i)))
-    so-far = lcm-is (map (period n φ) (down i)) (lengths-positive p i (k .far))
+    so-far = lengths-level p i (k .far)
 
     with-next : LeastCommonMultiple (map (period n φ) (down (suc i))) (leastCommonMultiple (map (period n φ) (down (suc i))))
-    with-next = lcm-is (map (period n φ) (down (suc i))) (lengths-positive p (suc i) more)
+    with-next = lengths-level p (suc i) more
 
     met-more : (x : ℕ) → Met φ i x → Met φ (suc i) x
     met-more x r = let h = r .1 in (r .0, omega arith, r .2)
@@ -114,7 +114,7 @@ module _ {n : ℕ} {φ : ℕ → ℕ} {seen : List ℕ} {count level i : ℕ} (k
         more-level =
             rw length-is
             (lcm-only
-            (lcm-more (period n φ (suc i)) so-far (lcm-is _ (two-positive (period n φ (suc i)) _ (lengths-positive p (suc i) more _ (inl refl)) (so-far .positive))))
+            (lcm-more (period n φ (suc i)) so-far (lcm-is _ (two-positive (lengths-positive p (suc i) more _ (inl refl)) (so-far .positive))))
             with-next)
 
         to : (x : ℕ) → OneTo n x → (at seen x ≡ 1) ⊎ SameCycle φ (suc i) x → Met φ (suc i) x

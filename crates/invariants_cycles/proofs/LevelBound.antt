@@ -8,9 +8,9 @@ use Prim.Native.Nat.{ℕ, zero, suc, _+_, _*_, _^_, _≤_, _<_}
 use native.Mathlib.Nat.{suc-add, mul-assoc, mul-le-mul, pow-le-pow-right}
 use native.Mathlib.Omega.{arith, pow-step}
 use lib.Dec.{eqb}
-use Rattle.lists.specs.Ranges.{OneTo, card, down}
+use Rattle.lists.specs.Ranges.{OneTo, card, sum, down}
 use Rattle.lists.proofs.Tests.{same?, eqb-same, eqb-eq, eqb-ne}
-use Rattle.lists.proofs.Ranges.{has-values, values-has}
+use Rattle.lists.proofs.Ranges.{has-values, values-has, sum-zero, sum-add, sum-le}
 use Rattle.invariants_multiples.specs.Multiples.{CommonMultiple, product, leastCommonMultiple}
 use Rattle.invariants_multiples.proofs.Multiples.{Positive, product-multiple, product-positive}
 use Rattle.invariants_cycles.specs.Cycles.{Permutation, iterate, SameCycle, leastOfCycle, period, cycleLengths}
@@ -19,29 +19,11 @@ use Rattle.invariants_cycles.proofs.Cycles.{period-is, after-in, powers
 use Rattle.invariants_cycles.proofs.Carried.{period-same}
 use Rattle.invariants_cycles.proofs.Levels.{level-is}
 
--- ---- sums
-
--- t 1 + .. + t n
-abbrev sum : ℕ → (ℕ → ℕ) → ℕ
-sum zero t = 0
-sum (suc n) t = t (suc n) + sum n t
-
-sum-zero : (n : ℕ) → sum n (λ x. 0) ≡ 0
-sum-zero zero = refl
-sum-zero (suc n) = let h = sum-zero n in omega arith
-
-sum-add : (n : ℕ) (t u : ℕ → ℕ) → sum n (λ x. t x + u x) ≡ sum n t + sum n u
-sum-add zero t u = refl
-sum-add (suc n) t u = let h = sum-add n t u in omega arith
-
-sum-le : (n : ℕ) (t u : ℕ → ℕ) → ((x : ℕ) → OneTo n x → t x ≤ u x) → sum n t ≤ sum n u
-sum-le zero t u h = omega arith
-sum-le (suc n) t u h = let i = h (suc n) (omega arith) in let j = sum-le n t u (λ x e. h x (omega arith)) in omega arith
+-- ---- how many lie over a number
 
 -- v is none of 1..n where it is above them, and otherwise one of them
 never : (n v : ℕ) → n < v → sum n (λ x. cond (eqb v x) 1 0) ≡ 0
-never zero v h = refl
-never (suc n) v h = rw (eqb-ne v (suc n) (omega arith)) (let i = never n v (omega arith) in omega arith)
+never n v h = sum-zero n (λ x. cond (eqb v x) 1 0) (λ x e. ap (λ b. cond b 1 0) (eqb-ne v x (omega arith)))
 
 once : (n v : ℕ) → sum n (λ x. cond (eqb v x) 1 0) ≤ 1
 once zero v = omega arith
@@ -53,7 +35,7 @@ once (suc n) v = go (same? v (suc n)) (once n v)
 
 -- of 1..n, as many as lie over each of 1..m, taken together, are at most n
 fibres : (m n : ℕ) (h : ℕ → ℕ) → sum m (λ x. card n (λ y. eqb (h y) x)) ≤ n
-fibres m zero h = let e = sum-zero m in omega arith
+fibres m zero h = let e = sum-zero m (λ x. card 0 (λ y. eqb (h y) x)) (λ x i. refl) in omega arith
 fibres m (suc n) h =
     let a = once m (h (suc n)) in
     let b = fibres m n h in

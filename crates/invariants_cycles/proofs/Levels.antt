@@ -18,8 +18,11 @@ lengths-positive {n} {φ} p i s d h =
     let e = r .1 in
     rw (r .2) (period-is p (r .0) (omega arith) .some)
 
+pub lengths-level : {n : ℕ} {φ : ℕ → ℕ} → Permutation n φ → (i : ℕ) → i ≤ n → LeastCommonMultiple (map (period n φ) (down i)) (leastCommonMultiple (map (period n φ) (down i)))
+lengths-level {n} {φ} p i s = lcm-is (map (period n φ) (down i)) (lengths-positive p i s)
+
 pub level-is : {n : ℕ} {φ : ℕ → ℕ} → Permutation n φ → LeastCommonMultiple (cycleLengths n φ) (leastCommonMultiple (cycleLengths n φ))
-level-is {n} {φ} p = lcm-is (cycleLengths n φ) (lengths-positive p n (omega arith))
+level-is {n} p = lengths-level p n (omega arith)
 
 pub level-carried : {n : ℕ} {φ ψ h : ℕ → ℕ} → Permutation n φ → Permutation n ψ → Carried n φ ψ h
     → leastCommonMultiple (cycleLengths n φ) ≤ leastCommonMultiple (cycleLengths n ψ)

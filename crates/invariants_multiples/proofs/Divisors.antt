@@ -5,6 +5,7 @@ use mathlib.Core.List.{[], _∷_}
 use Prim.Native.Nat.{ℕ, _*_, _/_, _%_, _≤_, _∣_}
 use native.Mathlib.Nat.{mul-comm, mul-right-comm, mul-pos, mul-le-mul-right, le-of-mul-le-mul-right, dvd-refl, dvd-zero, dvd-mul-left, dvd-mul-right, dvd-mod-iff, le-of-dvd, pos-of-dvd-of-pos, div-mul-cancel, dvd-of-mul-dvd-mul-right, mul-dvd-mul-left}
 use native.Mathlib.Omega.{arith}
+use Rattle.lists.specs.Lists.{Has}
 use Rattle.invariants_multiples.specs.Multiples.{CommonMultiple, LeastCommonMultiple, GreatestCommonDivisor, leastCommonMultiple}
 use Rattle.invariants_multiples.proofs.Multiples.{Positive, lcm-is, lcm-divides}
 
@@ -23,15 +24,17 @@ gcd-step a b g G = record {
 
 -- ---- two numbers
 
-pub two-positive : (a b : ℕ) → 1 ≤ a → 1 ≤ b → Positive (a ∷ b ∷ [])
-two-positive a b p q d (inl e) = rw e p
-two-positive a b p q d (inr (inl e)) = rw e q
-two-positive a b p q d (inr (inr h)) = absurd h
+-- what holds of a and of b holds of each number of their list
+both : (P : ℕ → Type 0) {a b : ℕ} → P a → P b → (d : ℕ) → Has d (a ∷ b ∷ []) → P d
+both P p q d (inl e) = rw e p
+both P p q d (inr (inl e)) = rw e q
+both P p q d (inr (inr h)) = absurd h
 
-two-multiple : (a b m : ℕ) → a ∣ m → b ∣ m → CommonMultiple (a ∷ b ∷ []) m
-two-multiple a b m p q d (inl e) = rw e p
-two-multiple a b m p q d (inr (inl e)) = rw e q
-two-multiple a b m p q d (inr (inr h)) = absurd h
+pub two-positive : {a b : ℕ} → 1 ≤ a → 1 ≤ b → Positive (a ∷ b ∷ [])
+two-positive p q = both (λ d. 1 ≤ d) p q
+
+two-multiple : {a b : ℕ} (m : ℕ) → a ∣ m → b ∣ m → CommonMultiple (a ∷ b ∷ []) m
+two-multiple m p q = both (λ d. d ∣ m) p q
 
 module _ {a b g : ℕ} (p : 1 ≤ a) (q : 1 ≤ b) (G : GreatestCommonDivisor a b g) where
   pub gcd-positive : 1 ≤ g
@@ -41,14 +44,14 @@ module _ {a b g : ℕ} (p : 1 ≤ a) (q : 1 ≤ b) (G : GreatestCommonDivisor a 
   l = leastCommonMultiple (b ∷ a ∷ [])
 
   L : LeastCommonMultiple (b ∷ a ∷ []) l
-  L = lcm-is (b ∷ a ∷ []) (two-positive b a q p)
+  L = lcm-is (b ∷ a ∷ []) (two-positive q p)
 
   -- what the least common multiple leaves of the product divides both
   abbrev e : ℕ
   e = a * b / l
 
   whole : e * l ≡ a * b
-  whole = div-mul-cancel l (lcm-divides L (a * b) (two-multiple b a (a * b) (dvd-mul-left b a) (dvd-mul-right a b)))
+  whole = div-mul-cancel l (lcm-divides L (a * b) (two-multiple (a * b) (dvd-mul-left b a) (dvd-mul-right a b)))
 
   e-a : e ∣ a
   e-a = dvd-of-mul-dvd-mul-right e q (rw whole at (mul-dvd-mul-left b e (L .multiple b (inl refl))))
@@ -63,7 +66,7 @@ module _ {a b g : ℕ} (p : 1 ≤ a) (q : 1 ≤ b) (G : GreatestCommonDivisor a 
   below = le-of-mul-le-mul-right (rw (parts, ← whole, mul-comm l g) (mul-le-mul-right l (G .greatest e e-a e-b))) gcd-positive
 
   above : l ≤ a / g * b
-  above = L .least (a / g * b) positive (two-multiple b a (a / g * b) (dvd-mul-left b (a / g)) a-in)
+  above = L .least (a / g * b) positive (two-multiple (a / g * b) (dvd-mul-left b (a / g)) a-in)
     where
       positive : 1 ≤ a / g * b
       positive = pos-of-dvd-of-pos (dvd-mul-right (a / g * b) g) (rw parts (mul-pos p q))

@@ -29,7 +29,7 @@ held-some (inr h) z = absurd (z (h .1))
 
 module _ {a b : ℕ} (q : 1 ≤ b) (m : ℕ) (H : Held m a) where
   L : 1 ≤ m → LeastCommonMultiple (b ∷ m ∷ []) (leastCommonMultiple (b ∷ m ∷ []))
-  L p = lcm-is (b ∷ m ∷ []) (two-positive b m q p)
+  L p = lcm-is (b ∷ m ∷ []) (two-positive q p)
 
   pub stays-beyond : a ≡ 0 → Held (leastCommonMultiple (b ∷ m ∷ [])) 0
   stays-beyond z =

@@ -7,7 +7,7 @@ use Prim.Native.Nat.{ℕ, zero, suc, _+_, _≤_, _<_}
 use native.Mathlib.Omega.{arith}
 use lib.ListN.{length}
 use Rattle.lists.specs.Lists.{Has, Distinct}
-use Rattle.lists.specs.Ranges.{OneTo, every, card, down, stretch}
+use Rattle.lists.specs.Ranges.{OneTo, every, card, sum, down, stretch}
 use Rattle.lists.proofs.Tests.{same?, both-true}
 use Rattle.lists.proofs.Lists.{has?, pigeons}
 
@@ -73,6 +73,20 @@ card-most (suc n) t = go (t (suc n)) (card-most n t)
     go : (b : Bool) → card n t ≤ n → cond b 1 0 + card n t ≤ suc n
     go true h = omega arith
     go false h = omega arith
+
+-- ---- sums
+
+pub sum-zero : (m : ℕ) (s : ℕ → ℕ) → ((j : ℕ) → OneTo m j → s j ≡ 0) → sum m s ≡ 0
+sum-zero zero s e = refl
+sum-zero (suc m) s e = let x = sum-zero m s (λ j i. e j (omega arith)) in let y = e (suc m) (omega arith) in omega arith
+
+pub sum-add : (n : ℕ) (t u : ℕ → ℕ) → sum n (λ x. t x + u x) ≡ sum n t + sum n u
+sum-add zero t u = refl
+sum-add (suc n) t u = let h = sum-add n t u in omega arith
+
+pub sum-le : (n : ℕ) (t u : ℕ → ℕ) → ((x : ℕ) → OneTo n x → t x ≤ u x) → sum n t ≤ sum n u
+sum-le zero t u h = omega arith
+sum-le (suc n) t u h = let i = h (suc n) (omega arith) in let j = sum-le n t u (λ x e. h x (omega arith)) in omega arith
 
 -- ---- a map of 1..n into itself that is one-to-one is onto
 
