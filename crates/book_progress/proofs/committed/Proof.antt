@@ -6,11 +6,11 @@ use native.Mathlib.Numerals.{add-one}
 use native.Mathlib.Omega.{arith}
 use denote.Ref.{now}
 use Rattle.lists.specs.Lists.{at}
+use Rattle.lists.specs.Ranges as ranges
 use Rattle.lists.specs.Ranges.{OneTo}
 use Rattle.book.specs.declared.types.Book.{Book}
 use Rattle.book.specs.declared.types.Heads.{Heads}
 use Rattle.book_entries.specs.Entries.{bookWith}
-use Rattle.book.specs.Shares as shares
 use Rattle.book.specs.Shares.{first, last, done, committed}
 use Rattle.book_progress.specs.Progress.{NextIn}
 use Rattle.book.proofs.Counts.{last-small}
@@ -32,7 +32,7 @@ any h p t e = refl
 module _ (h : Heads) (p : List ℕ) where
   -- the committed positions of shares 1..i
   record Counted (i sum : ℕ) : Type 0 where
-    is : sum ≡ shares.sum i (done (bare h p))
+    is : sum ≡ ranges.sum i (done (bare h p))
     small : sum ≤ i * 2 ^ 57
 
   -- share i + 1 adds those from its first to the one before its next
