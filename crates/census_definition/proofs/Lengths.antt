@@ -46,7 +46,7 @@ signed-length a b h l = go (ltb a b)
     go true = let i = three (suc (b - suc a)) (omega arith) in omega arith
     go false = let i = three (a - b) (omega arith) in omega arith
 
--- a number of at most n bits
+-- a number of at most 2^n
 power-length : (n : ℕ) → n ≤ 50 → (m : ℕ) → m ≤ 2 ^ n → length (decimal m) ≤ n + 2
 power-length n s m h = go (lt? n 16)
   where

@@ -12,7 +12,7 @@ use Rattle.lists.specs.Lists.{at}
 use Rattle.lists.specs.Ranges.{OneTo, card, down}
 use Rattle.lists.proofs.Tests.{same?, lt?}
 use Rattle.lists.proofs.Ranges.{card-most, has-values}
-use Rattle.invariants_multiples.specs.Multiples.{LeastCommonMultiple, leastCommonMultiple, Held}
+use Rattle.invariants_multiples.specs.Multiples.{LeastCommonMultiple, leastCommonMultiple, Held, HeldMultiple}
 use Rattle.invariants_multiples.proofs.Multiples.{lcm-is, lcm-only, lcm-more, lcm-again}
 use Rattle.invariants_multiples.proofs.Divisors.{two-positive}
 use Rattle.invariants_multiples.proofs.Holding.{held-one}
@@ -91,8 +91,7 @@ module _ {n : ℕ} {φ : ℕ → ℕ} {seen : List ℕ} {count level i : ℕ} (k
 
     -- the next edge has no mark: it is the least of its cycle, which is walked now
     pub count-new : getD seen i 0 ≢ 1 → (new : List ℕ) → CycleMarked n φ (i + 1) seen new → (l r : ℕ) → l ≡ period n φ (i + 1)
-        → ((m : ℕ) → Held m level → Held (leastCommonMultiple (l ∷ m ∷ [])) r)
-        → Counted n φ new (count + 1) r (i + 1)
+        → HeldMultiple level l r → Counted n φ new (count + 1) r (i + 1)
     count-new unmarked new w l r q grows = rw (add-one i) record { far = more; counted = more-count; levelled = rw more-level at (grows _ (k .levelled)); marks = marked-as (rw (add-one i) at w) (λ x d. to x d) (λ x d. from x d) }
       where
         first : leastOfCycle n φ (suc i) ≡ true

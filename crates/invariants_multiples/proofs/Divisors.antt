@@ -37,7 +37,7 @@ two-multiple : {a b : ℕ} (m : ℕ) → a ∣ m → b ∣ m → CommonMultiple 
 two-multiple m p q = both (λ d. d ∣ m) p q
 
 module _ {a b g : ℕ} (p : 1 ≤ a) (q : 1 ≤ b) (G : GreatestCommonDivisor a b g) where
-  pub gcd-positive : 1 ≤ g
+  gcd-positive : 1 ≤ g
   gcd-positive = pos-of-dvd-of-pos (G .left) p
 
   abbrev l : ℕ

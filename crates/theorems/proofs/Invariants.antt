@@ -3,7 +3,7 @@ use mathlib.Core.Path.{_≡_, refl, sym, ap, _∙_}
 use mathlib.Core.Logic.{_≢_, _⊎_, inl, inr, ⊎-elim, _↔_}
 use mathlib.Core.Bool.{Bool, true, false, true≢false, cond}
 use mathlib.Core.List.{List, [], _∷_}
-use Prim.Native.Nat.{ℕ, zero, suc, _+_, _^_, _≤_, _<_}
+use Prim.Native.Nat.{ℕ, zero, suc, _+_, _≤_, _<_}
 use native.Mathlib.Omega.{arith}
 use lib.Dec.{eqb}
 use lib.ListN.{length}
@@ -31,7 +31,7 @@ use Rattle.invariants.proofs.SmallLevels.{small-level}
 use Rattle.invariants.proofs.Differences.{t-of}
 use Rattle.theorems.specs.Listing.{ExactlyOne}
 use Rattle.theorems.proofs.Determined.Diagrams.{invariants-once}
-use Rattle.theorems.specs.Invariants.{Counts, LeastReturn, Lowest, Level, CyclesHold, Means, InvariantsHold}
+use Rattle.theorems.specs.Invariants.{Counts, LeastReturn, Lowest, Level, Over64Bits, CyclesHold, Means, InvariantsHold}
 
 -- ---- how many pass a test
 
@@ -180,7 +180,7 @@ isomorphic-same s0 s1 r A t0 t1 i x I =
 -- ---- the refusal of the level
 
 outgrown : (s0 s1 : List ℕ) (root : ℕ) (a : Measured) → InvariantsPromise s0 s1 root a
-    → (invariants-number a ≡ 62) ↔ (Accepts s0 s1 root × ((m : ℕ) × Level (length s0) (cuspMap (at s0) (at s1)) m × (2 ^ 64 ≤ m)))
+    → (invariants-number a ≡ 62) ↔ (Accepts s0 s1 root × ((m : ℕ) × Level (length s0) (cuspMap (at s0) (at s1)) m × Over64Bits m))
 outgrown s0 s1 root (Known x) (A, few, I) = (λ e. absurd (omega arith), λ h. absurd (few (rw (level-only (level-is (permutes s0 s1 root A)) (h .1 .1)) (h .1 .2))))
 outgrown s0 s1 root (Refused k) (inl R) = (λ e. (let i = refuses-most s0 s1 root k R in absurd (omega arith)), λ h. absurd (not-both s0 s1 root k (h .0) R))
 outgrown s0 s1 root (Refused k) (inr (e, A, O)) = (λ _. (A, (_, level-is (permutes s0 s1 root A), O)), λ _. e)

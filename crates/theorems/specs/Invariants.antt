@@ -5,6 +5,7 @@
 --   LeastReturn φ x l   l is the least number of steps, from 1 on, after which φ leads x back to x: the length of x's cycle
 --   Lowest φ x          no edge of x's cycle is below x
 --   Level n φ m         m is the least positive number that the length of every cycle of φ divides
+--   Over64Bits m        m is 2^64 or more
 --   CyclesHold n φ      period, cycles and the level of a permutation φ of 1..n are what they are called
 --   Means n f g x       the numbers x are the invariants of the diagram with black map f and white map g
 -- and from elsewhere: leastCommonMultiple (crate invariants_multiples, Multiples); Permutation, iterate, SameCycle, leastOfCycle, period, cycles, cycleLengths, cuspMap (crate
@@ -50,6 +51,9 @@ pub record Level (n : ℕ) (φ : ℕ → ℕ) (m : ℕ) : Type 0 where
   pub divided : (x l : ℕ) → OneTo n x → LeastReturn φ x l → l ∣ m
   pub least : (k : ℕ) → 1 ≤ k → ((x l : ℕ) → OneTo n x → LeastReturn φ x l → l ∣ k) → m ≤ k
 
+abbrev pub Over64Bits : ℕ → Type 0
+Over64Bits m = 2 ^ 64 ≤ m
+
 pub record CyclesHold (n : ℕ) (φ : ℕ → ℕ) : Type 0 where
   -- the period of an edge is its least return
   pub period-is : (x : ℕ) → OneTo n x → LeastReturn φ x (period n φ x)
@@ -86,7 +90,7 @@ pub record InvariantsHold : Type 0 where
   pub measured : (s0 s1 : List ℕ) (root : ℕ) (x : Numbers) → InvariantsPromise s0 s1 root (Known x) → Means (length s0) (at s0) (at s1) x
   -- it answers 62 exactly where they are a diagram whose level is 2^64 or more, so never of a diagram of fewer than 64 edges
   pub outgrown : (s0 s1 : List ℕ) (root : ℕ) (a : Measured) → InvariantsPromise s0 s1 root a
-      → (invariants-number a ≡ 62) ↔ (Accepts s0 s1 root × ((m : ℕ) × Level (length s0) (cuspMap (at s0) (at s1)) m × (2 ^ 64 ≤ m)))
+      → (invariants-number a ≡ 62) ↔ (Accepts s0 s1 root × ((m : ℕ) × Level (length s0) (cuspMap (at s0) (at s1)) m × Over64Bits m))
   pub small-known : (s0 s1 : List ℕ) (root : ℕ) (a : Measured) → InvariantsPromise s0 s1 root a → length s0 < 64 → invariants-number a ≢ 62
   -- isomorphic diagrams have the same invariants, and the operation answers the same for them, 62 too
   pub isomorphic-same : (s0 s1 : List ℕ) (r : ℕ) → Accepts s0 s1 r → (t0 t1 : List ℕ) → Isomorphic s0 s1 t0 t1 → (x : Numbers) → Invariants s0 s1 x → Invariants t0 t1 x

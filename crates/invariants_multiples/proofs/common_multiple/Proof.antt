@@ -1,7 +1,7 @@
 -- common_multiple: 0 where a stands for too large a number, or where the quotient times b would be one; otherwise that product.
 use borrow.Author.Needs.{needs}
+use native.Mathlib.Nat.{pos-of-dvd-of-pos}
 use native.Mathlib.Omega.{arith}
-use Rattle.invariants_multiples.proofs.Divisors.{gcd-positive}
 use Rattle.invariants_multiples.proofs.Holding.{product-fits, stays-beyond, goes-beyond, stays-held}
 use Rattle.invariants_multiples.proofs.common_multiple.Statement.{statement}
 use Rattle.invariants_multiples.proofs.common_multiple.Tie as tie
@@ -13,7 +13,7 @@ gcd-requires : tie.Need-gcd-requires
 gcd-requires c κs = let z = c .if1 .left in omega arith
 
 div-quotient : tie.Need-div-quotient
-div-quotient c = let z = c .before .if1 .left in gcd-positive {a = c .before .before .args .a} (omega arith) (c .before .before .pre) (c .gcd .ensures)
+div-quotient c = let z = c .before .if1 .left in pos-of-dvd-of-pos (c .gcd .ensures .left) (omega arith)
 
 div-if2 : tie.Need-div-if2
 div-if2 c = search needs
