@@ -1,6 +1,11 @@
 #!/usr/bin/env bash
 # Proves and builds the census program, then prints the census of the size given: ./census.sh 6
+# Without a size: how many diagrams the sizes 1 to 9 have, and how many of them are kept.
 set -eu
 cd "$(dirname "$0")"
 rt check census >&2
-printf '%s\n' "${1:?a size, 1 to 50}" | target/bin/census
+if [ $# -eq 0 ]; then
+    target/bin/census < /dev/null
+else
+    printf '%s\n' "$1" | target/bin/census
+fi

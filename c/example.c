@@ -1,13 +1,15 @@
-/* The diagrams of the sizes 1 to 3 come in a single list, a sheet of words gets its positions in one call, and a diagram its level. Then two
- * sessions divide the 22 rooted diagrams of size 6, of which the first rows are printed. One of them falls asleep, its ticket lapses, the other one
- * takes its share over, and what the sleeper then says too late is refused. In the end the report says complete, with 22 committed. */
+/* The diagrams of the sizes 1 to 3 come in a single list, those of the sizes 1 to 12 are counted, a sheet of words gets its positions in one call,
+ * and a diagram its level. Then two sessions divide the 22 rooted diagrams of size 6, of which the first rows are printed. One of them falls asleep,
+ * its ticket lapses, the other one takes its share over, and what the sleeper then says too late is refused. In the end the report says complete,
+ * with 22 committed. */
 #include "kaldvemir.h"
 
 #include <inttypes.h>
 #include <stdio.h>
 #include <stdlib.h>
 
-enum { BOUND = 3, UPTO_COUNT = 6, UPTO_VISITS = 6, CELLS = 4, EDGES = 7, LEVEL = 12, SIZE = 6, SHARES = 3, COUNT = 22, LEASE = 10, ROWS = 3 };
+enum { BOUND = 3, UPTO_COUNT = 6, UPTO_VISITS = 6, LINES = 12, CELLS = 4, EDGES = 7, LEVEL = 12 };
+enum { SIZE = 6, SHARES = 3, COUNT = 22, LEASE = 10, ROWS = 3 };
 
 static kaldvemir_book book;
 static uint64_t tick;
@@ -47,6 +49,29 @@ static void print_upto(void) {
     if (given != UPTO_COUNT || visits != UPTO_VISITS) {
         fprintf(stderr, "not %d diagrams with %d visits\n", UPTO_COUNT, UPTO_VISITS);
         exit(EXIT_FAILURE);
+    }
+}
+
+/* A summary: each size with the number of its diagrams and of those that are kept. */
+static void print_summary(void) {
+    static const uint64_t counts[LINES] = {1, 1, 4, 8, 5, 22, 42, 40, 120, 265, 286, 764};
+    static const uint64_t kept_counts[LINES] = {1, 1, 2, 2, 1, 8, 6, 7, 14, 27, 26, 80};
+    uint64_t count, kept = 9;
+    expect("kept count of no size", kaldvemir_kept_count(0, &kept), 31);
+    expect("kept count of a large size", kaldvemir_kept_count(KALDVEMIR_MAX_LISTED + 1, &kept), 31);
+    if (kept != 9) {
+        fprintf(stderr, "a refused kept count wrote\n");
+        exit(EXIT_FAILURE);
+    }
+    printf("sizes with their diagrams and the kept ones:\n");
+    for (uint64_t size = 1; size <= LINES; size++) {
+        expect("count", kaldvemir_count(size, &count), 0);
+        expect("kept count", kaldvemir_kept_count(size, &kept), 0);
+        printf("%" PRIu64 " %" PRIu64 " %" PRIu64 "\n", size, count, kept);
+        if (count != counts[size - 1] || kept != kept_counts[size - 1]) {
+            fprintf(stderr, "not %" PRIu64 " diagrams, %" PRIu64 " kept\n", counts[size - 1], kept_counts[size - 1]);
+            exit(EXIT_FAILURE);
+        }
     }
 }
 
@@ -157,6 +182,7 @@ int main(void) {
     uint64_t committed, complete;
 
     print_upto();
+    print_summary();
     print_sheet();
     print_level();
     print_rows();

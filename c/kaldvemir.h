@@ -115,6 +115,12 @@ uint16_t kaldvemir_letters(const uint16_t *word, size_t word_len, uint8_t *lette
 /* Count: how many words spell a diagram of that size. 31 size outside 1..50. */
 uint16_t kaldvemir_count(uint64_t size, uint64_t *count);
 
+/* Kept count: how many diagrams of that size are kept, and so how many classes there are without a root. 31. It counts by listing: its time grows
+ * with the list, which on average doubles from a size to the next, well under a second at size 24 and years at size 50, where kaldvemir_count answers
+ * at once. Both together make a summary of any sizes, a line with the size, the count and the kept count for each, as the census program prints it
+ * of the sizes 1 to 9 for empty input. */
+uint16_t kaldvemir_kept_count(uint64_t size, uint64_t *kept);
+
 /* Diagram at a position, with its word and the word's length. 31; 32 position 0 or above the count; 9. */
 uint16_t kaldvemir_diagram_at(uint64_t size, uint64_t position, uint16_t *s0, size_t s0_len, uint16_t *s1, size_t s1_len,
                               uint16_t *word, size_t word_len, uint64_t *length);

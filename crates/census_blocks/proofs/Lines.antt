@@ -24,16 +24,12 @@ use Rattle.invariants.specs.Promises.{Invariants}
 use Rattle.listing.specs.Position.{wordAt}
 use Rattle.listing.specs.Diagrams.{diagramAt}
 use Rattle.run_marks.specs.Marks.{MarkOf}
+use Rattle.text_printing_pieces.proofs.Pieces.{flatten-append}
 use Rattle.text_printing.specs.Printing.{signedPieces, wordPieces, entryPieces, listPieces}
 use Rattle.census_lines.specs.Lines.{field, numbersPieces, measuredPieces, markText, linePieces}
 use Rattle.census_definition.specs.Census.{ascii, signed, joined, commas, isKept, numbers, fields, row}
 
 -- ---- pieces as texts
-
-flatten-append : (ss ts : List (List ℕ)) → flatten (ss ++ ts) ≡ flatten ss ++ flatten ts
-unfolding flatten
-flatten-append [] ts = refl
-flatten-append (s ∷ ss) ts = rw (flatten-append ss ts) (sym (append-assoc s (flatten ss) (flatten ts)))
 
 signed-text : (z : ℤ) → flatten (signedPieces z) ≡ signed z
 unfolding flatten signedPieces

@@ -178,20 +178,19 @@ all-given : (n p asked k : ℕ) (next : Run) → p + asked ≤ count n → RunAf
 all-given n p asked k next h (inl (e, l, q)) = (e, q)
 all-given n p asked k next h (inr (l, e, q)) = absurd (omega arith)
 
-module _ {run : Run} {p asked k : ℕ} {next : Run} {a0 a1 aw al b0 b1 bw bl : List ℕ}
-    (R : RunAt (run .size) p run) (left : p + asked ≤ count (run .size)) (G : RowsGiven run asked k next a0 a1 aw al b0 b1 bw bl) where
+module _ {run : Run} {p asked k : ℕ} {next : Run} {a0 a1 aw al b0 b1 bw bl : List ℕ} (R : RunAt (run .size) p run) (G : RowsGiven run asked k next a0 a1 aw al b0 b1 bw bl) where
   -- the size and the place that the block tells of are the run's
-  held : BlockHeld (run .size) p k b0 b1 bw bl
+  pub held : BlockHeld (run .size) p k b0 b1 bw bl
   held = let o = stands-once (G .stands) R in rw (o .1) at (gave-holds G)
 
-  leaves : RunAfterRows (run .size) p asked k next
+  pub leaves : RunAfterRows (run .size) p asked k next
   leaves = let o = stands-once (G .stands) R in rw (o .0, o .1) at (G .leaves)
 
   -- and its text is that of the rows
-  pub block-whole : {am bm a b : List ℕ} {place kept : ℕ} → asked ≤ 48 → asked * rowBytes (run .size) ≤ length a
+  pub block-whole : {am bm a b : List ℕ} {place kept : ℕ} → p + asked ≤ count (run .size) → asked ≤ 48 → asked * rowBytes (run .size) ≤ length a
       → ((q : ℕ) → BlockHeld (run .size) q k b0 b1 bw bl → MarksWritten (run .size) q k am bm) → PutRowsPromise p (run .size) k b0 b1 bw bl bm a b place kept
       → RowsText (run .size) p asked a place kept next b
-  block-whole {am} {bm} {a} {b} {place} {kept} few room marks P =
+  block-whole {am} {bm} {a} {b} {place} {kept} left few room marks P =
       let n = run .size in
       let e = all-given n p asked k next left leaves in
       let w = held .within in

@@ -11,18 +11,22 @@
 --   row n p             these parted by one space each, and a newline
 --   rows n p k          the rows p + 1, .., p + k, one after another
 --   keptAmong n p k     how many of these diagrams are kept
+--   keptCount n         how many of all diagrams of size n are kept
 --   header n            the first line;  totals k m, the last line: k listed, m kept
 --   census n            the whole text
 --   refusal k           the line that stands in its place where the input is refused with the number k
+--   summaryLine n       the size n, how many diagrams it has and how many of them are kept
+--   summary s           the summary lines of the sizes 1 to 9, with the text s behind each
 --   rowBytes n          bytes enough for a row of size n (theorem `row-fits`)
 use mathlib.Core.Bool.{Bool, cond}
-use mathlib.Core.List.{List, [], _∷_, _++_, map}
+use mathlib.Core.List.{List, [], _∷_, _++_, map, flatten}
 use Prim.Native.Nat.{ℕ, zero, suc, _+_, _*_}
 use Prim.Native.Char.{code}
 use Prim.Native.String.{String, [] as none, _∷_ as _then_}
 use lib.IntN.{ℤ, pos, negsuc}
 use lib.ListN.{length}
 use Rattle.lists.specs.Lists.{at}
+use Rattle.lists.specs.Ranges.{stretch}
 use Rattle.words_decimals.specs.Decimals.{decimal}
 use Rattle.words.specs.Order.{same}
 use Rattle.words.specs.Word.{Pair}
@@ -82,6 +86,9 @@ unfoldable pub keptAmong : ℕ → ℕ → ℕ → ℕ
 keptAmong n p zero = 0
 keptAmong n p (suc k) = keptAmong n p k + cond (isKept (diagramAt n (suc (p + k)))) 1 0
 
+abbrev pub keptCount : ℕ → ℕ
+keptCount n = keptAmong n 0 (count n)
+
 -- ---- the whole text
 
 unfoldable pub header : ℕ → List ℕ
@@ -91,10 +98,18 @@ unfoldable pub totals : ℕ → ℕ → List ℕ
 totals k m = decimal k ++ (ascii " listed, " ++ (decimal m ++ ascii " kept\n"))
 
 unfoldable pub census : ℕ → List ℕ
-census n = header n ++ (rows n 0 (count n) ++ totals (count n) (keptAmong n 0 (count n)))
+census n = header n ++ (rows n 0 (count n) ++ totals (count n) (keptCount n))
 
 unfoldable pub refusal : ℕ → List ℕ
 refusal k = ascii "refused " ++ (decimal k ++ ascii "\n")
+
+-- ---- what empty input is answered (request U4)
+
+abbrev pub summaryLine : ℕ → List ℕ
+summaryLine n = joined 32 (map decimal (n ∷ count n ∷ keptCount n ∷ []))
+
+unfoldable pub summary : List ℕ → List ℕ
+summary s = flatten (map (λ n. summaryLine n ++ s) (stretch 1 9))
 
 -- ---- room
 

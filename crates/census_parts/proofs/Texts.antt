@@ -17,8 +17,9 @@ use Rattle.run_answers.specs.Promises.{fresh, runAfter, RunAt}
 use Rattle.run_validity.proofs.Runs.{stands-once, stands-not-over}
 use Rattle.run_text.specs.declared.RowsAnswer.the-variants.{Rows, Refused}
 use Rattle.run_text.specs.Promises.{RowsPromise}
-use Rattle.run_text.proofs.Growing.{rows-then, kept-then, kept-most}
+use Rattle.run_text.proofs.Growing.{rows-then}
 use Rattle.census_definition.specs.Census.{header, rows, keptAmong, totals, census, rowBytes}
+use Rattle.census_definition.proofs.Kept.{kept-then, kept-most}
 use Rattle.census_blocks.specs.Blocks.{RowsText}
 use Rattle.census_parts.specs.declared.Progress.{Progress}
 use Rattle.census_parts.specs.Parts.{begun, InProgress, printed, printedAt, left, PartGiven, Parts, over, more, PartsAreCensus}

@@ -35,7 +35,7 @@ fn items_of(length: u16) -> usize
 }
 
 // 1 for the mark of a kept diagram, 0 for another.
-fn kept_of(mark: u8) -> u64
+pub fn kept_of(mark: u8) -> u64
     ensures { λ r. ⌜ (r ≡ cond (eqb mark 1) 1 0) × (r ≤ 1) ⌝ }
 {
     if mark == 1 { 1 } else { 0 }

@@ -1,6 +1,6 @@
 -- Laws of the inputs that name a size: which bytes the sizes of one digit and of two have, and how long an input is that names one of these.
 use mathlib.Core.Path.{_≡_, refl, ap, _∙_}
-use mathlib.Core.Logic.{_⊎_, inl, inr, ⊎-elim}
+use mathlib.Core.Logic.{_≢_, _⊎_, inl, inr, ⊎-elim}
 use mathlib.Core.List.{List, [], _∷_, _++_}
 use Prim.Native.Nat.{ℕ, zero, suc, _+_, _*_, _/_, _%_, _≤_, _<_}
 use native.Mathlib.Omega.{arith}
@@ -8,9 +8,9 @@ use lib.ListN.{length, getD}
 use Rattle.lists.proofs.Tests.{lt?}
 use Rattle.words.specs.Letters.{decimal}
 use Rattle.words.proofs.Decimal.{decimal-small, decimal-more}
-use Rattle.listing_ranking.specs.declared.Total.{Total}
 use Rattle.listing_ranking.specs.declared.Total.the-variants as total
 use Rattle.listing_ranking.specs.Promises.{CountPromise}
+use Rattle.census_size.specs.declared.Request.the-variants.{Census, Refused}
 use Rattle.census_size.specs.Size.{Names, NamedSizePromise, RequestPromise}
 
 -- ---- decimals of one digit and of two, with the newline
@@ -117,8 +117,15 @@ names-once input m n h k p q = go (names-bytes input m h p) (names-bytes input n
 
 -- ---- what is asked for
 
-pub asked-for : (input : List ℕ) (n : ℕ) (t : Total) → NamedSizePromise input n → CountPromise n t → RequestPromise input n t
-asked-for input n (total.Number c) (inl (m, h)) (s, e) = (m, s, e)
-asked-for input n (total.Number c) (inr (z, none)) (s, e) = absurd (omega arith)
-asked-for input n (total.Refused k) (inl (m, h)) (e, out) = (e, λ x s p. out (rw (names-once input x n (omega arith) h p m) at s))
-asked-for input n (total.Refused k) (inr (z, none)) (e, out) = (e, λ x s p. none x (omega arith) p)
+-- an empty input names no size, and no other is empty
+pub nothing-asked : (input : List ℕ) → length input ≡ 0 → input ≡ []
+nothing-asked [] e = refl
+nothing-asked (x ∷ l) e = absurd (omega arith)
+
+pub census-asked : (input : List ℕ) (n c : ℕ) → NamedSizePromise input n → CountPromise n (total.Number c) → RequestPromise input (Census n)
+census-asked input n c (inl (m, h)) (s, e) = (m, s)
+census-asked input n c (inr (z, none)) (s, e) = absurd (omega arith)
+
+pub refusal-asked : (input : List ℕ) (n k : ℕ) → length input ≢ 0 → NamedSizePromise input n → CountPromise n (total.Refused k) → RequestPromise input (Refused k)
+refusal-asked input n k d (inl (m, h)) (e, out) = (e, λ q. d (ap length q), λ x s p. out (rw (names-once input x n (omega arith) h p m) at s))
+refusal-asked input n k d (inr (z, none)) (e, out) = (e, λ q. d (ap length q), λ x s p. none x (omega arith) p)

@@ -1,5 +1,5 @@
 // What the input of the census program asks for. Document 01: it "reads a decimal size without leading zeros and a newline, nothing else"; other
-// input, and a size outside 1..50, is refused 31.
+// input, and a size outside 1..50, is refused 31. Empty input, no byte at all, asks for the summary (request U4).
 use listing_ranking::Total;
 ghost use mathlib.Core.List.{[], _∷_};
 ghost use Rattle.census_size.specs.Size.{NamedSizePromise, RequestPromise};
@@ -50,19 +50,24 @@ fn named_size(input: &[u8]) -> u64
     0
 }
 
-// A size, and what count answers for it.
-pub struct Request {
-    pub size: u64,
-    pub total: Total,
+// What is to be printed: the summary of the small sizes, the census of a size, or a refusal.
+pub enum Request {
+    Summary,
+    Census(u64),
+    Refused(u16),
 }
 
-// The size that the input names and how many diagrams it has, or the refusal 31.
+// What the input asks for.
 pub fn asked(input: &[u8]) -> Request
-    ensures { λ r. ⌜ RequestPromise (now (input .entry)) (r .size) (r .total) ⌝ }
+    ensures { λ r. ⌜ RequestPromise (now (input .entry)) r ⌝ }
 {
+    if input.len() == 0 {
+        return Request::Summary;
+    }
     let size = named_size(input);
-    Request {
-        size,
-        total: listing_ranking::count(size),
+    let total = listing_ranking::count(size);
+    match total {
+        Total::Number(_) => Request::Census(size),
+        Total::Refused(k) => Request::Refused(k),
     }
 }

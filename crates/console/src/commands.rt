@@ -165,6 +165,7 @@ pub fn on_line(
         count|nN|A;\
         invariants|iLLN|A B C + D;\
         kept|kLLN|no|yes;\
+        kept-count|eN|A;\
         lesser|lLL|A 0;\
         letters|tL4|5;\
         list|LN0123|A 0 1 2 3;\
@@ -189,6 +190,7 @@ pub fn on_line(
         set expiry|6NN|ok;\
         sheet|hL01|0 9;\
         step|S012|0 1 2|end;\
+        summary|y|5;\
         symmetries|sLLN|A;\
         take|TNN012|share A position B 0 1 2;\
         upto|UN|ok;\

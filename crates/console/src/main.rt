@@ -17,6 +17,8 @@
 //   lesser A B                                     1 A or 2 B, the list that is handed back
 //   letters WORD [ROOM]                            the word's letters, `-` for none
 //   count N                                        the number of diagrams of that size
+//   kept-count N                                   how many of these are kept; its time grows with their number
+//   summary                                        SIZE COUNT KEPT of the sizes 1 to 9, with a comma and a space between any two sizes
 //   at N P [R0 R1 RW]                              S0 S1 WORD
 //   position S0 S1 ROOT                            its number
 //   row N P                                        the line of that position in the census of that size

@@ -20,12 +20,14 @@ fn on_words(
     match letter {
         b'a' => words::diagram_at(values[1], values[2], s0, s1, word),
         b'd' => words::read(list, s0, s1),
+        b'e' => words::kept_count(values[1]),
         b'h' => words::sheet(list, values, s0),
         b'l' => words::lesser(list, entries_of(entries, values, 2), s0),
         b'm' => words::reached(list, bytes),
         b'n' => words::count(values[1]),
         b'o' => words::row(values[1], values[2], bytes),
         b't' => words::letters(list, bytes),
+        b'y' => words::summary(bytes),
         _ => words::walk(values[1], s0),
     }
 }

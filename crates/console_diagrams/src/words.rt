@@ -1,4 +1,5 @@
 // The commands on words, on marks and on a size.
+use census_summary::put_summary;
 use console_commands::arguments::marks_of;
 use console_commands::arguments::room;
 use console_replies::Reply;
@@ -13,6 +14,7 @@ use console_replies::valued;
 use kaldvemir::given::kaldvemir_all_reached;
 use kaldvemir::listed::kaldvemir_count;
 use kaldvemir::listed::kaldvemir_diagram_at;
+use kaldvemir::listed::kaldvemir_kept_count;
 use kaldvemir::listed::kaldvemir_plain_walk;
 use kaldvemir::runs::kaldvemir_begin_at;
 use kaldvemir::runs::kaldvemir_rows;
@@ -68,6 +70,21 @@ pub fn count(size: u64) -> Reply {
     let mut count: u64 = 0;
     let refusal = kaldvemir_count(size, &mut count);
     valued(refusal, count)
+}
+
+pub fn kept_count(size: u64) -> Reply {
+    let mut kept: u64 = 0;
+    let refusal = kaldvemir_kept_count(size, &mut kept);
+    valued(refusal, kept)
+}
+
+// The lines of the summary with `, ` between them.
+pub fn summary(bytes: &mut [u8]) -> Reply {
+    if bytes.len() < 576 {
+        return error();
+    }
+    let end = put_summary(bytes, b", ");
+    listed(0, 0, [0, 0, 0, 0, end as u64 - 2])
 }
 
 pub fn walk(size: u64, list: &mut [u16]) -> Reply {

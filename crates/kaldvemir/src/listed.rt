@@ -10,6 +10,7 @@ ghost use Rattle.listing_ranking.specs.declared.Entry.{Entry};
 ghost use Rattle.listing_ranking.specs.declared.Place.{Place};
 ghost use Rattle.listing_plain_walk.specs.Promises.{PlainWalkPromise};
 ghost use Rattle.listing_plain_walk.specs.declared.Walked.{Walked};
+ghost use Rattle.run_kept_count.specs.Promises.{KeptCountPromise};
 ghost use Rattle.kaldvemir_answers.specs.Answers as answers;
 
 #[no_mangle]
@@ -18,6 +19,14 @@ pub extern "C" fn kaldvemir_count(size: u64, count: &mut u64) -> u16
 {
     let a = listing_ranking::count(size);
     count_answer(a, count)
+}
+
+#[no_mangle]
+pub extern "C" fn kaldvemir_kept_count(size: u64, kept: &mut u64) -> u16
+    ensures { λ r. ⌜ ((a : Total) × KeptCountPromise size a × (r ≡ answers.count-number a) × (now (kept .exit) ≡ answers.count-total a (now (kept .entry)))) ⌝ }
+{
+    let a = run_kept_count::kept_count(size);
+    count_answer(a, kept)
 }
 
 #[no_mangle]

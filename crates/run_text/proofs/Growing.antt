@@ -1,7 +1,6 @@
 -- Laws of rows that are written a block at a time.
 use mathlib.Core.Path.{_≡_, refl, sym, ap, _∙_, subst}
 use mathlib.Core.Logic.{_≢_}
-use mathlib.Core.Bool.{Bool, true, false, cond}
 use mathlib.Core.List.{List, [], _++_, append-assoc, append-nil}
 use Prim.Native.Nat.{ℕ, zero, suc, _+_, _-_, _*_, _≤_, _<_}
 use native.Mathlib.Nat.{add-zero, add-mul, mul-le-mul-right}
@@ -15,14 +14,14 @@ use Rattle.lists.specs.Ranges.{OneTo}
 use Rattle.words.specs.Shape.{Word}
 use Rattle.listing.specs.Listing.{count}
 use Rattle.listing.specs.Position.{position}
-use Rattle.listing.specs.Diagrams.{diagramAt}
 use Rattle.listing.proofs.Positions.{position-at}
 use Rattle.run_answers.specs.declared.Run.{Run}
 use Rattle.run_answers.specs.Promises.{RunAt, runAfter}
 use Rattle.run_validity.specs.Valid.{ValidRun}
 use Rattle.run_validity.proofs.Validity.{staged-at, staged-few}
 use Rattle.run_validity.proofs.Standing.{standing, stands-size}
-use Rattle.census_definition.specs.Census.{isKept, row, rows, keptAmong, rowBytes}
+use Rattle.census_definition.specs.Census.{row, rows, keptAmong, rowBytes}
+use Rattle.census_definition.proofs.Kept.{kept-then, kept-most}
 use Rattle.census_blocks.specs.Blocks.{RowsText}
 use Rattle.census_blocks.proofs.Texts.{rows-fit}
 
@@ -35,14 +34,6 @@ rows-then n p j (suc k) =
     let e : j + suc k ≡ suc (j + k) = omega arith in
     let f : p + (j + k) ≡ (p + j) + k = omega arith in
     rw (e, rows-then n p j k, f) (append-assoc (rows n p j) (rows n (p + j) k) (row n (suc ((p + j) + k))))
-
-pub kept-then : (n p j k : ℕ) → keptAmong n p (j + k) ≡ keptAmong n p j + keptAmong n (p + j) k
-unfolding keptAmong
-kept-then n p j zero = rw (add-zero j) (omega arith)
-kept-then n p j (suc k) =
-    let e : j + suc k ≡ suc (j + k) = omega arith in
-    let f : p + (j + k) ≡ (p + j) + k = omega arith in
-    rw (e, kept-then n p j k, f) (omega arith)
 
 -- ---- how many diagrams a run has given
 
@@ -82,15 +73,6 @@ pub record Growing (n p all : ℕ) (before : List ℕ) (run : Run) (out : List �
 pub growing-none : (n p all : ℕ) (before : List ℕ) (run : Run) → RunAt n p run → Growing n p all before run before 0 0 0
 unfolding rows keptAmong
 growing-none n p all before run R = record { few = omega arith; long = refl; text = record { bytes-are = refl; kept-are = refl; next-is = rw add-zero (R .is); written = refl } }
-
-pub kept-most : (n p k : ℕ) → keptAmong n p k ≤ k
-unfolding keptAmong
-kept-most n p zero = omega arith
-kept-most n p (suc k) = go (isKept (diagramAt n (suc (p + k)))) (kept-most n p k)
-  where
-    go : (b : Bool) → keptAmong n p k ≤ k → keptAmong n p k + cond b 1 0 ≤ suc k
-    go true i = omega arith
-    go false i = omega arith
 
 module _ {n p all : ℕ} {before : List ℕ} {run : Run} {out : List ℕ} {bytes kept done : ℕ} (s : OneTo 50 n) (w : p + all ≤ count n) (r : all * rowBytes n ≤ length before)
     (G : Growing n p all before run out bytes kept done) where

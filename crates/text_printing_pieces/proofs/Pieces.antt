@@ -1,7 +1,7 @@
 -- Laws of printing: a piece that fits and one that does not, pieces one after another, and the steps of the functions that print a piece.
 use mathlib.Core.Path.{_≡_, refl, sym, ap, _∙_}
 use mathlib.Core.Bool.{Bool, true, false, cond}
-use mathlib.Core.List.{List, [], _∷_, _++_, flatten}
+use mathlib.Core.List.{List, [], _∷_, _++_, flatten, append-assoc}
 use Prim.Native.Nat.{ℕ, _+_, _≤_, _<_}
 use native.Mathlib.Nat.{add-zero}
 use native.Mathlib.Numerals.{add-one}
@@ -38,6 +38,11 @@ put-of d i s r e p = rw (p .next, p .bytes) (both (leb (i + length s) (length d)
     both false = refl
 
 -- ---- pieces one after another
+
+pub flatten-append : (ss ts : List (List ℕ)) → flatten (ss ++ ts) ≡ flatten ss ++ flatten ts
+unfolding flatten
+flatten-append [] ts = refl
+flatten-append (s ∷ ss) ts = rw (flatten-append ss ts) (sym (append-assoc s (flatten ss) (flatten ts)))
 
 -- where all of them fit, they stand one after another from the next place on
 pub put-all-fits : (ss : List (List ℕ)) (o : Output) → o .next + length (flatten ss) ≤ length (o .bytes)

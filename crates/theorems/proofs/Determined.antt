@@ -12,7 +12,7 @@ pub mod Diagrams
 pub mod Rows
 pub mod Upto
 pub mod Texts
-use Rattle.theorems.proofs.Determined.Diagrams.{check-once, checked-once, all-reached-once, letters-once, gave-once, relabel-once, characteristic-once, compare-rooted-once, compare-unrooted-once, symmetries-once, kept-once, invariants-once, count-once, diagram-at-once, position-once, sheet-once, plain-walk-once}
+use Rattle.theorems.proofs.Determined.Diagrams.{check-once, checked-once, all-reached-once, letters-once, gave-once, relabel-once, characteristic-once, compare-rooted-once, compare-unrooted-once, symmetries-once, kept-once, invariants-once, count-once, kept-count-once, diagram-at-once, position-once, sheet-once, plain-walk-once}
 use Rattle.theorems.proofs.Determined.Texts.{rows-once}
 use Rattle.theorems.proofs.Determined.Rows.{begin-once, begin-at-once, step-once, list-once, list-marked-once}
 use Rattle.theorems.proofs.Determined.Upto.{upto-begin-once, upto-step-once}
@@ -41,6 +41,7 @@ determined = record {
   kept-once = kept-once;
   invariants-once = invariants-once;
   count-once = count-once;
+  kept-count-once = kept-count-once;
   diagram-at-once = diagram-at-once;
   position-once = position-once;
   sheet-once = sheet-once;

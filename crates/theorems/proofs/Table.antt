@@ -22,6 +22,7 @@ use Rattle.listing.specs.Position.{wordAt, position}
 use Rattle.listing.specs.Diagrams.{diagramOf, diagramAt}
 use Rattle.listing_ranking.specs.declared.Total.the-variants.{Number}
 use Rattle.listing_ranking.specs.Promises.{CountPromise}
+use Rattle.census_definition.proofs.Example.{sizes-1-to-9}
 use Rattle.upto.specs.Upto.{upto, total}
 use Rattle.upto.specs.Visits.{visits}
 use Rattle.sheet.specs.Cells.{cells, cell}
@@ -91,6 +92,7 @@ table = record {
   upto-3 = (refl, refl);
   sheet-4 = (refl, refl);
   level-7 = (refl, refl);
+  summary-9 = sizes-1-to-9;
 }
 
 -- ---- the edges
@@ -103,7 +105,7 @@ pub limits : Limits
 unfolding listing completions count wordAt diagramAt diagramOf spell spells first last finished holder lapsed in-range next-in finished-free ticket-once ticket-issued expiry-in share-valid entry-unused entries-valid counters-in valid opened entered tick-in held claim-number claim-book ticket-number due commit-number commit-answer
 limits = record {
   size-50 = taken-50;
-  size-51 = (refl, λ e. omega arith);
+  size-51 = ((refl, λ e. omega arith), (refl, λ e. omega arith));
   position-8 = λ a0 a1 aw s. (omega arith, omega arith, s, refl, record { s0-written = refl; s1-written = refl; word-written = refl });
   position-9 = λ a0 a1 aw. (inr (inl (refl, omega arith, λ e. omega arith)), record { s0-same = refl; s1-same = refl; word-same = refl });
   before-expiry = refl;

@@ -2,6 +2,7 @@
 use Rattle.theorems.specs.Theorems.{Theorems}
 use Rattle.theorems.proofs.Demand2.{demand-2}
 use Rattle.theorems.proofs.Demand3.{demand-3}
+use Rattle.theorems.proofs.KeptCount.{kept-count-holds}
 use Rattle.theorems.proofs.Corollaries.{corollaries-hold}
 use Rattle.theorems.proofs.SecondList.{begun-at-holds}
 use Rattle.theorems.proofs.SingleList.{single-list-holds, visits-hold}
@@ -16,6 +17,7 @@ pub theorems : Theorems
 theorems = record {
   demand-2 = demand-2;
   demand-3 = demand-3;
+  kept-count = kept-count-holds;
   corollaries = corollaries-hold;
   begun-at = begun-at-holds;
   blocks = blocks-are-steps;

@@ -34,6 +34,7 @@ use Rattle.listing_ranking.specs.declared.Place.{Place}
 use Rattle.listing_ranking.specs.Promises.{CountPromise, DiagramAtPromise, PositionPromise}
 use Rattle.listing_plain_walk.specs.declared.Walked.{Walked}
 use Rattle.listing_plain_walk.specs.Promises.{PlainWalkPromise}
+use Rattle.run_kept_count.specs.Promises.{KeptCountPromise}
 use Rattle.run_answers.specs.declared.Run.{Run}
 use Rattle.run_answers.specs.declared.Beginning.{Beginning}
 use Rattle.run_answers.specs.declared.Stepping.{Stepping}
@@ -79,8 +80,9 @@ pub record Determined : Type 0 where
   pub symmetries-once : (s0 s1 : List ℕ) (root : ℕ) (r q : Symmetry) → SymmetriesPromise s0 s1 root r → SymmetriesPromise s0 s1 root q → r ≡ q
   pub kept-once : (s0 s1 : List ℕ) (root : ℕ) (r q : KeepMark) → KeptPromise s0 s1 root r → KeptPromise s0 s1 root q → r ≡ q
   pub invariants-once : (s0 s1 : List ℕ) (root : ℕ) (r q : Measured) → InvariantsPromise s0 s1 root r → InvariantsPromise s0 s1 root q → r ≡ q
-  -- count, diagram at a position, position of a diagram
+  -- count, kept count, diagram at a position, position of a diagram
   pub count-once : (n : ℕ) (r q : Total) → CountPromise n r → CountPromise n q → r ≡ q
+  pub kept-count-once : (n : ℕ) (r q : Total) → KeptCountPromise n r → KeptCountPromise n q → r ≡ q
   pub diagram-at-once : (n p : ℕ) (a0 a1 aw b0 b1 bw c0 c1 cw : List ℕ) (r q : Entry) → DiagramAtPromise n p a0 a1 aw b0 b1 bw r → DiagramAtPromise n p a0 a1 aw c0 c1 cw q
       → (r ≡ q) × SameLists b0 b1 bw c0 c1 cw
   pub position-once : (s0 s1 : List ℕ) (root : ℕ) (r q : Place) → PositionPromise s0 s1 root r → PositionPromise s0 s1 root q → r ≡ q

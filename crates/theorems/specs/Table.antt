@@ -12,7 +12,7 @@
 --   Table, Limits              01's table; its edges
 -- and from elsewhere: listing, count, wordAt, diagramAt (listing); letters (words, Letters); e2, .., level (invariants_cycles); MarkOf (run_blocks, Rows);
 -- wordOf, characteristic (labelling); Accepts, CheckPromise (diagrams, Check); readAnswer (words_reading, Read); first, last, ShareHolds (book);
--- CountPromise, DiagramAtPromise (listing_ranking, Promises); total, visits (upto); refusals, positions (sheet, Cells); cellOf, joined (Sheets); opened, claim-book,
+-- CountPromise, DiagramAtPromise (listing_ranking, Promises); summary (census_definition, Census); KeptCountPromise (run_kept_count, Promises); total, visits (upto); refusals, positions (sheet, Cells); cellOf, joined (Sheets); opened, claim-book,
 -- commit-answer (book, Calls).
 use mathlib.Core.Path.{_≡_}
 use mathlib.Core.List.{List, [], _∷_, map}
@@ -37,6 +37,8 @@ use Rattle.run_blocks.specs.Rows.{MarkOf}
 use Rattle.listing_ranking.specs.declared.Total.the-variants as total
 use Rattle.listing_ranking.specs.declared.Entry.the-variants as entry
 use Rattle.listing_ranking.specs.Promises.{CountPromise, DiagramAtPromise}
+use Rattle.run_kept_count.specs.Promises.{KeptCountPromise}
+use Rattle.census_definition.specs.Census as census
 use Rattle.upto.specs.Upto as upto
 use Rattle.upto.specs.Visits.{visits}
 use Rattle.sheet.specs.Cells as sheet
@@ -164,6 +166,8 @@ pub record Table : Type 0 where
   pub sheet-4 : (sheet.refusals four-cells ≡ 0 ∷ 25 ∷ 0 ∷ 61 ∷ []) × (sheet.positions four-cells ≡ 4 ∷ 0 ∷ 1 ∷ 0 ∷ [])
   -- and a level (request U3): cycles of the lengths 3 and 4, here of the edges 7 to 1, give 12
   pub level-7 : (cycles.cycleLengths 7 (cycles.cuspMap (at black-7) (at white-7)) ≡ 4 ∷ 4 ∷ 3 ∷ 4 ∷ 4 ∷ 3 ∷ 3 ∷ []) × (cycles.level 7 (at black-7) (at white-7) ≡ 12)
+  -- and the summary of the sizes 1 to 9 (request U4); of size 3, (c) and (d) are kept
+  pub summary-9 : census.summary (census.ascii "\n") ≡ census.ascii "1 1 1\n2 1 1\n3 4 2\n4 8 2\n5 5 1\n6 22 8\n7 42 6\n8 40 7\n9 120 14\n"
 
 -- ---- the edges: the last that is taken and the first that is refused
 
@@ -174,7 +178,7 @@ claimed = claim-book (opened 4 3) 10 1 5
 pub record Limits : Type 0 where
   -- size 50 taken, 51 refused 31
   pub size-50 : CountPromise 50 (total.Number (count 50))
-  pub size-51 : CountPromise 51 (total.Refused 31)
+  pub size-51 : CountPromise 51 (total.Refused 31) × KeptCountPromise 51 (total.Refused 31)
   -- position 8 of size 4 taken, 9 refused 32
   pub position-8 : (a0 a1 aw : List ℕ) → ¬ Short 4 a0 a1 aw
       → DiagramAtPromise 4 8 a0 a1 aw (overwrite (2 ∷ 3 ∷ 1 ∷ 4 ∷ []) a0) (overwrite (3 ∷ 4 ∷ 1 ∷ 2 ∷ []) a1) (overwrite (1 ∷ 4 ∷ 2 ∷ []) aw) (entry.Length 3)

@@ -1,6 +1,7 @@
 -- All statements of this crate together: what the user demands, and what follows from it.
 use Rattle.theorems.specs.Demand2.{Demand2}
 use Rattle.theorems.specs.Demand3.{Demand3}
+use Rattle.theorems.specs.KeptCount.{KeptCountHolds}
 use Rattle.theorems.specs.Corollaries.{CorollariesHold}
 use Rattle.theorems.specs.SecondList.{BegunAtHolds}
 use Rattle.theorems.specs.SingleList.{SingleListHolds, VisitsHold}
@@ -16,6 +17,8 @@ pub record Theorems : Type 0 where
   pub demand-2 : Demand2
   -- the share book, the run and the keep mark
   pub demand-3 : Demand3
+  -- kept count answers the number of classes taken without a root
+  pub kept-count : KeptCountHolds
   -- what users look for in the first list: tickets that have ended, releases, the report
   pub corollaries : CorollariesHold
   -- a run that begins at a position is one that steps could have left

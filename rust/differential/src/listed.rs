@@ -1,4 +1,4 @@
-//! Listed diagrams: count, diagram at a position, position, plain walk.
+//! Listed diagrams: count, kept count, diagram at a position, position, plain walk.
 use crate::diagrams::{any, damage, Diagram, Mix};
 use crate::given::{accepted, outcome};
 use crate::lists::{overwritten, Lists};
@@ -16,6 +16,26 @@ pub fn count(random: &mut Random, counts: &mut OutcomeCounts) -> Compared {
     let library = kaldvemir::count(size).map_err(Refusal::number);
     let reference = reference::count(size);
     counts.compare("count", outcome(&reference, accepted), &library, &reference, &size)
+}
+
+/// The largest size whose kept count is asked for at random: the library counts by listing, so that a large size takes it long.
+const SMALL: u64 = 10;
+
+/// The kept count of a small size or of one outside 1 to 50.
+pub fn kept_count(random: &mut Random, counts: &mut OutcomeCounts) -> Compared {
+    let size = random.near(&[0, 3, 51]);
+    if (SMALL..=50).contains(&size) || random.percent(50) {
+        return kept_count_of(random.between(1, SMALL), counts);
+    }
+    kept_count_of(size, counts)
+}
+
+/// The kept count of a size.
+pub fn kept_count_of(size: u64, counts: &mut OutcomeCounts) -> Compared {
+    let library = kaldvemir::kept_count(size).map_err(Refusal::number);
+    let reference = reference::kept_count(size);
+    let kind = outcome(&reference, |_| if size <= SMALL { "small" } else { "larger" });
+    counts.compare("kept count", kind, &library, &reference, &size)
 }
 
 pub fn diagram_at(random: &mut Random, counts: &mut OutcomeCounts) -> Compared {

@@ -3,8 +3,9 @@
 //!
 //!   differential [--full] [--seed N] [--inputs N]
 //!
-//! A short run compares 50,000 inputs of every operation at least, a full one 1,000,000. The same seed, 1 where none is given, gives the same
-//! inputs on any number of cores.
+//! A short run compares 50,000 inputs of every operation at least, a full one 1,000,000. Kept counts, which the library finds by listing, are
+//! those of small sizes, and of each size up to 18 once, in a full run up to 24. The same seed, 1 where none is given, gives the same inputs on
+//! any number of cores.
 #![forbid(unsafe_code)]
 
 mod blocks;
@@ -38,7 +39,7 @@ const PIECE: u64 = 5_000;
 type Comparison = fn(&mut Random, &mut OutcomeCounts) -> Compared;
 
 /// Each comparison with the operations it compares.
-const COMPARISONS: [(Comparison, &[&str]); 26] = [
+const COMPARISONS: [(Comparison, &[&str]); 27] = [
     (given::kept, &["kept"]),
     (blocks::list_marked, &["list marked"]),
     (blocks::list, &["list"]),
@@ -54,6 +55,7 @@ const COMPARISONS: [(Comparison, &[&str]); 26] = [
     (given::lesser, &["lesser"]),
     (given::letters, &["letters"]),
     (listed::count, &["count"]),
+    (listed::kept_count, &["kept count"]),
     (listed::diagram_at, &["diagram at"]),
     (listed::position, &["position"]),
     (listed::plain_walk, &["plain walk"]),
@@ -73,32 +75,48 @@ const WHOLE: u16 = 14;
 /// The largest bound of sizes that is run through whole.
 const WHOLE_UPTO: u16 = 11;
 
-/// A piece of work, by its number: first the whole runs, by steps, in blocks, as rows and through all sizes, then every comparison in turn.
-fn piece(number: usize, seed: u64, counts: &mut OutcomeCounts) -> Compared {
+/// The largest size whose kept diagrams are counted, by the number of inputs an operation.
+fn counted(inputs: u64) -> usize {
+    if inputs < FULL { 18 } else { 24 }
+}
+
+/// How many pieces of work there are: one for each size that is counted, and then those of every comparison in turn.
+fn pieces(inputs: u64) -> usize {
+    counted(inputs) + COMPARISONS.len() * inputs.div_ceil(PIECE) as usize
+}
+
+/// A piece of work, by its number.
+fn piece(number: usize, inputs: u64, seed: u64, counts: &mut OutcomeCounts) -> Compared {
     let mut random = Random::new(seed, number as u64);
-    if number < usize::from(WHOLE) {
+    if number < counted(inputs) {
         let size = number as u16 + 1;
-        runs::whole(size, &mut random, counts)?;
-        blocks::whole(size, &mut random, counts)?;
-        rows::whole(size, &mut random, counts)?;
-        return if size <= WHOLE_UPTO { upto::whole(size, &mut random, counts) } else { Ok(()) };
+        listed::kept_count_of(size.into(), counts)?;
+        return if size <= WHOLE { whole(size, &mut random, counts) } else { Ok(()) };
     }
-    let (comparison, operations) = COMPARISONS[(number - usize::from(WHOLE)) % COMPARISONS.len()];
+    let (comparison, operations) = COMPARISONS[(number - counted(inputs)) % COMPARISONS.len()];
     while operations.iter().any(|operation| counts.inputs(operation) < PIECE) {
         comparison(&mut random, counts)?;
     }
     Ok(())
 }
 
+/// The whole runs of a size, by steps, in blocks, as rows and through all sizes.
+fn whole(size: u16, random: &mut Random, counts: &mut OutcomeCounts) -> Compared {
+    runs::whole(size, random, counts)?;
+    blocks::whole(size, random, counts)?;
+    rows::whole(size, random, counts)?;
+    if size <= WHOLE_UPTO { upto::whole(size, random, counts) } else { Ok(()) }
+}
+
 /// Does piece after piece until none is left; at the first difference, or where the binding finds a fault, prints it and ends the program.
-fn work(pieces: usize, seed: u64, next: &AtomicUsize, total: &Mutex<OutcomeCounts>) {
+fn work(inputs: u64, seed: u64, next: &AtomicUsize, total: &Mutex<OutcomeCounts>) {
     loop {
         let number = next.fetch_add(1, Ordering::Relaxed);
-        if number >= pieces {
+        if number >= pieces(inputs) {
             return;
         }
         let mut counts = OutcomeCounts::default();
-        match catch_unwind(AssertUnwindSafe(|| piece(number, seed, &mut counts))) {
+        match catch_unwind(AssertUnwindSafe(|| piece(number, inputs, seed, &mut counts))) {
             Ok(Ok(())) => total.lock().expect("no thread panics holding it").add(counts),
             Ok(Err(difference)) => fail(&format!(
                 "DIFFERENCE in {}: seed {seed}, piece {number}\ninput: {}\nlibrary: {}\nreference: {}",
@@ -143,11 +161,10 @@ fn main() {
     let cores = thread::available_parallelism().map_or(1, usize::from);
     let started = Instant::now();
     println!("seed {seed}, {inputs} inputs of every operation at least, {cores} threads");
-    let pieces = usize::from(WHOLE) + COMPARISONS.len() * inputs.div_ceil(PIECE) as usize;
     let (next, total) = (AtomicUsize::new(0), Mutex::new(OutcomeCounts::default()));
     thread::scope(|scope| {
         for _ in 0..cores {
-            scope.spawn(|| work(pieces, seed, &next, &total));
+            scope.spawn(|| work(inputs, seed, &next, &total));
         }
     });
     let total = total.into_inner().expect("no thread panics holding it");

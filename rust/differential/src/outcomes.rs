@@ -21,7 +21,7 @@ pub struct Difference {
 pub type Compared = Result<(), Box<Difference>>;
 
 /// Every operation with the kinds of its accepted answers and its refusals: each is to be met.
-pub const OPERATIONS: [(&str, &[&str], &[u16]); 36] = [
+pub const OPERATIONS: [(&str, &[&str], &[u16]); 37] = [
     ("check", &["accepted"], GIVEN),
     ("all reached", &["yes", "no"], &[]),
     ("relabel", &["accepted"], &[1, 2, 3, 4, 5, 6, 7, 8, 9]),
@@ -36,6 +36,8 @@ pub const OPERATIONS: [(&str, &[&str], &[u16]); 36] = [
     ("lesser", &["first", "second"], &[]),
     ("letters", &["accepted"], &[22, 9]),
     ("count", &["accepted"], &[31]),
+    // small sizes at random, and each size once, up to 18 or, in a full run, 24
+    ("kept count", &["small", "larger"], &[31]),
     ("diagram at", &["accepted"], &[31, 32, 9]),
     ("position", &["accepted"], &[1, 2, 3, 4, 5, 6, 7, 8, 31]),
     ("plain walk", &["accepted"], &[35, 9]),

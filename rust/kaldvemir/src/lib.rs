@@ -31,7 +31,7 @@ mod words;
 pub use books::{Book, Report, Taken};
 pub use diagrams::{Diagrams, Listed, UptoListed};
 pub use given::{all_reached, check, compare_rooted, compare_unrooted, invariants, kept, relabel, symmetries, Invariants};
-pub use listed::{count, diagram_at, plain_walk, position};
+pub use listed::{count, diagram_at, kept_count, plain_walk, position};
 pub use refusals::{Refusal, Side, Sided};
 pub use runs::{row_bytes, Rows, Run};
 pub use sheets::{cell, sheet_positions, CELL};

@@ -9,6 +9,25 @@ pub fn count(size: u64) -> Result<u64, Refusal> {
     given(|count| raw::count(size, count))
 }
 
+/// Kept count: how many diagrams of that size are kept, and so how many classes there are without a root. Refuses 31. It counts by listing: its time
+/// grows with the list, which on average doubles from a size to the next, well under a second at size 24 and years at size 50, where [`count`]
+/// answers at once.
+///
+/// Both together make a summary of any sizes:
+///
+/// ```
+/// use kaldvemir::{count, kept_count, Refusal};
+/// let line = |size| Ok(format!("{size} {} {}\n", count(size)?, kept_count(size)?));
+/// let summary = (3..=6).map(line).collect::<Result<String, Refusal>>()?;
+/// assert_eq!(summary, "3 4 2\n4 8 2\n5 5 1\n6 22 8\n");
+/// assert_eq!(kept_count(51), Err(Refusal::ListedSizeOutside));
+/// # Ok::<(), Refusal>(())
+/// ```
+#[inline]
+pub fn kept_count(size: u64) -> Result<u64, Refusal> {
+    given(|kept| raw::kept_count(size, kept))
+}
+
 /// Diagram at a position of a size, from 1: writes it with its word and returns the word's length. Refuses 31; 32; 9 where an output list has
 /// fewer than n, n and n + 1 places.
 #[inline]

@@ -32,6 +32,7 @@ extern "C" {
     fn kaldvemir_lesser(first: *const u16, first_len: usize, second: *const u16, second_len: usize) -> u16;
     fn kaldvemir_letters(word: *const u16, word_len: usize, letters: *mut u8, letters_len: usize, length: *mut u64) -> u16;
     fn kaldvemir_count(size: u64, count: *mut u64) -> u16;
+    fn kaldvemir_kept_count(size: u64, kept: *mut u64) -> u16;
     fn kaldvemir_diagram_at(
         size: u64, position: u64, s0: *mut u16, s0_len: usize, s1: *mut u16, s1_len: usize,
         word: *mut u16, word_len: usize, length: *mut u64,
@@ -155,6 +156,11 @@ pub(crate) fn letters(word: &[u16], letters: &mut [u8], length: &mut u64) -> u16
 #[inline]
 pub(crate) fn count(size: u64, count: &mut u64) -> u16 {
     unsafe { kaldvemir_count(size, count) }
+}
+
+#[inline]
+pub(crate) fn kept_count(size: u64, kept: &mut u64) -> u16 {
+    unsafe { kaldvemir_kept_count(size, kept) }
 }
 
 #[inline]

@@ -87,6 +87,49 @@ fn a_whole_run() {
     assert_eq!((plain_walk(3, &mut words), &words[..14]), (Ok(13), &[1, 0, 0, 0, 1, 0, 3, 1, 3, 0, 1, 4, 0, 9][..]));
 }
 
+/// The published numbers of classes without a root, of sizes 1, 2, 3 and so on.
+#[test]
+fn kept_counts() {
+    for (size, classes) in (1..).zip([1, 1, 2, 2, 1, 8, 6, 7, 14, 27, 26, 80, 133, 170]) {
+        assert_eq!(kept_count(size), Ok(classes));
+    }
+    for size in [0, 51, 1 << 32 | 3, u64::MAX] {
+        assert_eq!(kept_count(size), Err(Refusal::ListedSizeOutside));
+    }
+}
+
+/// How many of a whole run's rows are kept, so many rows at a time.
+fn kept_rows(size: u64, rows: usize) -> u64 {
+    let (mut run, mut bytes, mut kept) = (Run::begin(size).unwrap(), vec![0; rows * row_bytes(size as usize)], 0);
+    loop {
+        let given = run.rows(rows as u64, &mut bytes).unwrap();
+        kept += given.kept;
+        if given.rows < rows as u64 {
+            return kept;
+        }
+    }
+}
+
+/// How many of a whole run's marks are 1, so many diagrams at a time.
+fn kept_marks(size: u64, rows: usize) -> u64 {
+    let (mut run, entries, mut kept) = (Run::begin(size).unwrap(), rows * size as usize, 0);
+    let (mut s0, mut s1, mut words) = (vec![0; entries], vec![0; entries], vec![0; entries + rows]);
+    let (mut lengths, mut marks) = (vec![0; rows], vec![0; rows]);
+    while run.stage != 2 {
+        let given = run.list_marked(rows as u64, &mut s0, &mut s1, &mut words, &mut lengths, &mut marks).unwrap();
+        kept += marks[..given as usize].iter().map(|mark| u64::from(*mark)).sum::<u64>();
+    }
+    kept
+}
+
+#[test]
+fn kept_counts_are_those_of_whole_runs() {
+    for size in 1..=17 {
+        let kept = Ok(kept_rows(size, 40));
+        assert_eq!((kept_count(size), Ok(kept_marks(size, 300))), (kept, kept), "size {size}");
+    }
+}
+
 #[test]
 fn a_run_from_each_position() {
     let mut run = Run::begin(4).unwrap();

@@ -7,6 +7,7 @@
 #![forbid(unsafe_code)]
 
 mod books;
+mod classes;
 mod diagrams;
 mod isomorphism;
 mod labelling;
@@ -18,6 +19,7 @@ mod upto;
 mod words;
 
 pub use books::{Book, Report, Taken};
+pub use classes::kept_count;
 pub use diagrams::{all_reached, check, invariants, Invariants};
 pub use isomorphism::{compare_rooted, compare_unrooted, Lent};
 pub use labelling::{kept, relabel, symmetries};

@@ -78,7 +78,7 @@ same-length c = search needs
 returns : tie.Need-returns
 returns c =
     let P = c .before .before .before .before .before .before .before .before .before .before .before .before .before .before .before .before .before .before .before .before .before .before .before .before .before .before .before .pre in
-    block-whole (P .0) (P .2) (c .before .before .before .before .before .before .before .before .before .before .before .before .before .before .before .before .before .before .before .before .before .rows-of .ensures) (P .1) (P .3) (c .before .before .before .before .before .before .before .before .before .before .before .mark-rows .ensures) (c .before .before .before .put-rows .ensures)
+    block-whole (P .0) (c .before .before .before .before .before .before .before .before .before .before .before .before .before .before .before .before .before .before .before .before .before .rows-of .ensures) (P .2) (P .1) (P .3) (c .before .before .before .before .before .before .before .before .before .before .before .mark-rows .ensures) (c .before .before .before .put-rows .ensures)
 
 pub put-block-spec : {M : Type 1} → statement M
 put-block-spec =

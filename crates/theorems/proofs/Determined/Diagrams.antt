@@ -44,6 +44,7 @@ use Rattle.listing_ranking.specs.declared.Entry.the-variants as entry
 use Rattle.listing_ranking.specs.declared.Place.{Place}
 use Rattle.listing_ranking.specs.declared.Place.the-variants as place
 use Rattle.listing_ranking.specs.Promises.{CountPromise, RefusedAt, DiagramAtPromise, PositionPromise}
+use Rattle.run_kept_count.specs.Promises.{KeptCountPromise}
 use Rattle.listing_plain_walk.specs.declared.Walked.{Walked}
 use Rattle.listing_plain_walk.specs.declared.Walked.the-variants as walked
 use Rattle.listing_plain_walk.specs.Promises.{PlainWalkPromise}
@@ -232,6 +233,12 @@ count-once n (total.Number c) (total.Number d) x y = ap total.Number (x .1 ∙ s
 count-once n (total.Number c) (total.Refused k) x y = absurd (y .1 (x .0))
 count-once n (total.Refused k) (total.Number c) x y = absurd (x .1 (y .0))
 count-once n (total.Refused j) (total.Refused k) x y = ap total.Refused (x .0 ∙ sym (y .0))
+
+pub kept-count-once : (n : ℕ) (r q : Total) → KeptCountPromise n r → KeptCountPromise n q → r ≡ q
+kept-count-once n (total.Number c) (total.Number d) x y = ap total.Number (x .1 ∙ sym (y .1))
+kept-count-once n (total.Number c) (total.Refused k) x y = absurd (y .1 (x .0))
+kept-count-once n (total.Refused k) (total.Number c) x y = absurd (x .1 (y .0))
+kept-count-once n (total.Refused j) (total.Refused k) x y = ap total.Refused (x .0 ∙ sym (y .0))
 
 module _ (n p : ℕ) (a0 a1 aw : List ℕ) where
   refused-at-once : (j k : ℕ) → RefusedAt n p a0 a1 aw j → RefusedAt n p a0 a1 aw k → j ≡ k

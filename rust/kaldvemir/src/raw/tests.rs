@@ -129,6 +129,7 @@ fn refused_words_and_sizes() {
     }
     assert_eq!((letters(&[2, 0], &mut letters_out, &mut out), letters(&[1, 0, 0, 0], &mut letters_out, &mut out)), (22, 9));
     assert_eq!((count(0, &mut out), count(51, &mut out)), (31, 31));
+    assert_eq!([0, 51, 1 << 32 | 3, u64::MAX].map(|size| kept_count(size, &mut out)), [31; 4]);
     assert_eq!((diagram_at(51, 1, &mut s0, &mut s1, &mut words, &mut out), diagram_at(2, 2, &mut s0, &mut s1, &mut words, &mut out)), (31, 32));
     assert_eq!((plain_walk(10, &mut words, &mut out), plain_walk(9, &mut words[1..], &mut out)), (35, 9));
     assert_eq!((s0, s1, words, letters_out, out), ([MARK; 2], [MARK; 2], [MARK; 1024], [7; 3], WIDE));
