@@ -44,6 +44,7 @@ use Rattle.listing_ranking.specs.declared.Entry.the-variants as entry
 use Rattle.listing_ranking.specs.declared.Place.{Place}
 use Rattle.listing_ranking.specs.declared.Place.the-variants as place
 use Rattle.listing_ranking.specs.Promises.{CountPromise, RefusedAt, DiagramAtPromise, PositionPromise}
+use Rattle.census_definition.specs.Census.{keptCount}
 use Rattle.run_kept_count.specs.Promises.{KeptCountPromise}
 use Rattle.listing_plain_walk.specs.declared.Walked.{Walked}
 use Rattle.listing_plain_walk.specs.declared.Walked.the-variants as walked
@@ -228,17 +229,19 @@ invariants-once s0 s1 root (measured.Refused j) (measured.Refused k) x y = ap me
 
 -- ---- count, diagram at a position, position of a diagram
 
+-- a number m for a size n of 1..50, and otherwise 31: count and kept count
+total-once : (n m : ℕ) (P : Total → Type 0) → ((c : ℕ) → P (total.Number c) → OneTo 50 n × (c ≡ m)) → ((k : ℕ) → P (total.Refused k) → (k ≡ 31) × (¬ OneTo 50 n))
+    → (r q : Total) → P r → P q → r ≡ q
+total-once n m P f g (total.Number c) (total.Number d) x y = ap total.Number (f c x .1 ∙ sym (f d y .1))
+total-once n m P f g (total.Number c) (total.Refused k) x y = absurd (g k y .1 (f c x .0))
+total-once n m P f g (total.Refused k) (total.Number c) x y = absurd (g k x .1 (f c y .0))
+total-once n m P f g (total.Refused j) (total.Refused k) x y = ap total.Refused (g j x .0 ∙ sym (g k y .0))
+
 pub count-once : (n : ℕ) (r q : Total) → CountPromise n r → CountPromise n q → r ≡ q
-count-once n (total.Number c) (total.Number d) x y = ap total.Number (x .1 ∙ sym (y .1))
-count-once n (total.Number c) (total.Refused k) x y = absurd (y .1 (x .0))
-count-once n (total.Refused k) (total.Number c) x y = absurd (x .1 (y .0))
-count-once n (total.Refused j) (total.Refused k) x y = ap total.Refused (x .0 ∙ sym (y .0))
+count-once n = total-once n (count n) (CountPromise n) (λ c x. x) (λ k x. x)
 
 pub kept-count-once : (n : ℕ) (r q : Total) → KeptCountPromise n r → KeptCountPromise n q → r ≡ q
-kept-count-once n (total.Number c) (total.Number d) x y = ap total.Number (x .1 ∙ sym (y .1))
-kept-count-once n (total.Number c) (total.Refused k) x y = absurd (y .1 (x .0))
-kept-count-once n (total.Refused k) (total.Number c) x y = absurd (x .1 (y .0))
-kept-count-once n (total.Refused j) (total.Refused k) x y = ap total.Refused (x .0 ∙ sym (y .0))
+kept-count-once n = total-once n (keptCount n) (KeptCountPromise n) (λ c x. x) (λ k x. x)
 
 module _ (n p : ℕ) (a0 a1 aw : List ℕ) where
   refused-at-once : (j k : ℕ) → RefusedAt n p a0 a1 aw j → RefusedAt n p a0 a1 aw k → j ≡ k
