@@ -1,0 +1,5 @@
+"""python -m kaldvemir: the command-line program."""
+
+from .cli import main
+
+main()
