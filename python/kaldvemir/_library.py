@@ -7,6 +7,7 @@ and numbers made here, long enough for every answer, so that 9 never comes up.
 from __future__ import annotations
 
 import ctypes
+import operator
 import os
 from collections.abc import Callable, Sequence
 from ctypes import POINTER, Array, byref, c_bool, c_int32, c_size_t, c_uint8, c_uint16, c_uint64
@@ -141,13 +142,15 @@ def ref(value: Any) -> Any:
     return byref(value)
 
 
-# Entries and numbers that do not fit are not cut off by ctypes without a word: that would ask about another diagram.
+# ctypes cuts off what does not fit without a word, and the library would be asked about another diagram.
 def fits(value: int, bits: int, what: str) -> int:
-    if isinstance(value, bool) or not isinstance(value, int):
-        raise TypeError(f"{what} is to be a whole number, not {value!r}")
-    if not 0 <= value < 1 << bits:
-        raise OverflowError(f"{what} {value} does not fit {bits} bits without a sign")
-    return value
+    try:
+        whole = operator.index(value)
+    except TypeError as error:
+        raise TypeError(f"{what} is to be a whole number, not {value!r}") from error
+    if not 0 <= whole < 1 << bits:
+        raise OverflowError(f"{what} {whole} does not fit {bits} bits without a sign")
+    return whole
 
 
 def unsigned(value: int, what: str = "number") -> c_uint64:

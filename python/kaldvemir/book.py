@@ -98,20 +98,20 @@ class Book:
 
     def next(self, share: int) -> int:
         """The share's first position that is not committed yet."""
-        return int(self.numbers.next[share - 1])
+        return self._entry("next", share)
 
     def ticket(self, share: int) -> int:
         """The ticket that stands at the share, 0 where none does."""
-        return int(self.numbers.ticket[share - 1])
+        return self._entry("ticket", share)
 
     def expiry(self, share: int) -> int:
         """The tick at which that ticket lapses, 0 without a ticket."""
-        return int(self.numbers.expiry[share - 1])
+        return self._entry("expiry", share)
 
-    def share_of(self, ticket: int) -> int | None:
-        """The share where a ticket stands."""
-        standing = list(self.numbers.ticket)
-        return standing.index(ticket) + 1 if ticket in standing[: self.shares] and ticket != 0 else None
+    def _entry(self, name: str, share: int) -> int:
+        if not 1 <= share <= lib.MAX_SHARES:
+            raise IndexError(f"there is no share {share}: shares are numbered from 1 to {lib.MAX_SHARES}")
+        return int(getattr(self.numbers, name)[share - 1])
 
     def claim(self, tick: int, share: int, length: int) -> int:
         """Claims a share for so many ticks, and gives the ticket; an old one ends. Refused 50, 52 to 57."""

@@ -20,6 +20,7 @@ from rich.live import Live
 from rich.progress import BarColumn, MofNCompleteColumn, Progress, TextColumn, TimeRemainingColumn
 
 from . import __version__
+from .book import Book
 from .census import Census, Problem, Snapshot, Store, Unreachable, connect
 from .census.audit import audit as audited
 from .census.audit import committed
@@ -104,6 +105,7 @@ def main() -> None:
 @_options(census=False)
 def open_census(db: str, size: int, shares: int, tick: float, resume: bool) -> None:
     """Open a census: a book with its shares, and an empty table."""
+    Book.open(size, shares)  # so that a refusal comes before a file is made
     store = connect(db, create=True)
     _warned(store)
     if resume:
@@ -144,9 +146,8 @@ def work(db: str, census: int | None, workers: int, lease: float, block: int, na
         command.append("--alone")
     if name:
         command += ["--name", name]
-    status = Supervisor(command, workers, lambda line: console.print(line, highlight=False, markup=False)).run(
-        lambda: _looked(store, chosen), console
-    )
+    tell = functools.partial(console.print, highlight=False, markup=False, soft_wrap=True)
+    status = Supervisor(command, workers, tell).run(lambda: _looked(store, chosen), console)
     show(report(_looked(store, chosen)), console)
     sys.exit(status)
 

@@ -59,12 +59,6 @@ class Invariants(NamedTuple):
     """The least common multiple of these cycles' lengths, which are the cusps' widths."""
 
 
-def _known(diagram: Diagram, **values: Any) -> Diagram:
-    """The diagram, with answers that the library has given already."""
-    diagram.__dict__.update(values)
-    return diagram
-
-
 class Diagram:
     """A rooted trivalent diagram: `Diagram(s0, s1, root=1)`, lists of 1..n. Refused 1 to 8 where that is none.
 
@@ -85,13 +79,16 @@ class Diagram:
 
     @classmethod
     def _given(cls, s0: Sequence[int], s1: Sequence[int], **values: Any) -> Diagram:
-        """A diagram that the library has written: it needs no check."""
+        """A diagram that the library has written, with what it has answered of it: it needs no check."""
         diagram = cls.__new__(cls)
         diagram.__dict__.update(s0=tuple(s0), s1=tuple(s1), root=1, **values)
         return diagram
 
     def __setattr__(self, name: str, value: object) -> None:
         raise AttributeError("a diagram is not altered: make another one")
+
+    def __delattr__(self, name: str) -> None:
+        self.__setattr__(name, None)
 
     @property
     def size(self) -> int:
@@ -100,7 +97,7 @@ class Diagram:
 
     @cached_property
     def _lent(self) -> tuple[Any, ...]:
-        return (*lib.items(self.s0), *lib.items(self.s1), lib.unsigned(self.root, "root"))
+        return _lent((self.s0, self.s1, self.root))
 
     @cached_property
     def _relabelled(self) -> tuple[tuple[int, ...], tuple[int, ...], Word]:
@@ -176,8 +173,14 @@ class Diagram:
         return Diagram, (self.s0, self.s1, self.root)
 
 
-def _lent(diagram: tuple[Sequence[int], Sequence[int], int]) -> tuple[Any, ...]:
-    s0, s1, root = diagram
+Given = Diagram | tuple[Sequence[int], Sequence[int], int]
+"""A diagram, or lists that may be none: s0, s1 and the root."""
+
+
+def _lent(given: Given) -> tuple[Any, ...]:
+    if isinstance(given, Diagram):
+        return given._lent
+    s0, s1, root = given
     return (*lib.items(s0), *lib.items(s1), lib.unsigned(root, "root"))
 
 
@@ -195,10 +198,8 @@ def _compared(first: tuple[Any, ...], second: tuple[Any, ...], rooted: bool) -> 
     return same.value == 1
 
 
-def compare(
-    first: tuple[Sequence[int], Sequence[int], int], second: tuple[Sequence[int], Sequence[int], int], *, rooted: bool = True
-) -> bool:
-    """Whether two diagrams, each given as (s0, s1, root), are isomorphic. A refusal, 1 to 8, has the side, 1 or 2."""
+def compare(first: Given, second: Given, *, rooted: bool = True) -> bool:
+    """Whether two diagrams, each a Diagram or (s0, s1, root), are isomorphic. A refusal, 1 to 8, has the side, 1 or 2."""
     return _compared(_lent(first), _lent(second), rooted)
 
 
@@ -216,4 +217,5 @@ def lesser(first: Sequence[int], second: Sequence[int]) -> Sequence[int]:
 
 def all_reached(marks: bytes) -> bool:
     """Whether every mark is 1: the test that ends the search for a connected diagram."""
+    marks = bytes(marks)
     return bool(lib.function("all_reached")((c_uint8 * max(1, len(marks)))(*marks), len(marks)))

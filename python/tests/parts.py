@@ -70,6 +70,14 @@ class Server:
     def url(self, database: str) -> str:
         return f"postgresql://kaldvemir@127.0.0.1:{self.port}/{database}"
 
+    def ask_for_passwords(self, user: str, password: str) -> None:
+        """Makes a user of that name whom the server asks for a password."""
+        with psycopg.connect(self.url("postgres"), autocommit=True) as connection:
+            connection.execute(f"CREATE ROLE {user} LOGIN SUPERUSER PASSWORD '{password}'")
+        rules = Path(self.folder) / "data" / "pg_hba.conf"
+        rules.write_text(f"host all {user} 127.0.0.1/32 scram-sha-256\n" + rules.read_text())
+        self._run("pg_ctl", "-D", f"{self.folder}/data", "reload")
+
     def new_database(self) -> str:
         name = f"census_{next(self._numbers)}"
         with psycopg.connect(self.url("postgres"), autocommit=True) as connection:

@@ -12,7 +12,7 @@ import os
 import re
 import shutil
 import subprocess
-from collections.abc import Iterable, Iterator
+from collections.abc import Iterable
 from dataclasses import dataclass
 from itertools import chain
 from pathlib import Path
@@ -20,6 +20,7 @@ from pathlib import Path
 import pytest
 
 import kaldvemir
+from kaldvemir.census.formats import as_gap
 
 SCRIPTS = Path(__file__).with_name("gap")
 # The numbers of classes of index 1, 2 and so on: two empty lists would agree too.
@@ -213,23 +214,9 @@ def test_gap_tells_two_exchanged_diagrams(classes, kept, tmp_path):
     assert different == [(9, first.number), (9, second.number)]
 
 
-def table(diagrams: Iterable[kaldvemir.Diagram]) -> Iterator[str]:
-    """The lines of `rows --format gap`. To be the program's own."""
-    diagrams = list(diagrams)
-    yield f"# rooted trivalent diagrams, size {diagrams[0].size}"
-    yield "kaldvemirRows := ["
-    for d in diagrams:
-        s0, s1 = (",".join(map(str, entries)) for entries in (d.s0, d.s1))
-        numbers = ", ".join(f"{name} := {value}" for name, value in d.invariants._asdict().items())
-        yield (
-            f'rec( position := {d.position}, word := "{d.word}", s0 := PermList([{s0}]), s1 := PermList([{s1}]), '
-            f"{numbers}, kept := {str(d.kept).lower()} ),"
-        )
-    yield "];"
-
-
 def table_text(n: int) -> str:
-    return "\n".join(table(kaldvemir.listing(n))) + "\n"
+    """What `kaldvemir rows --format gap` prints of a size."""
+    return "\n".join(as_gap(kaldvemir.rows(n))) + "\n"
 
 
 @pytest.mark.parametrize(("n", "rows"), [(1, 1), (2, 1), (9, 120)])

@@ -11,6 +11,7 @@ A session that keeps a transaction open and does nothing (a stopped process, a m
 
 from __future__ import annotations
 
+import logging
 import os
 from collections.abc import Callable, Iterator
 from contextlib import contextmanager
@@ -60,6 +61,8 @@ FROM kaldvemir_block b JOIN kaldvemir_ticket t USING (census, ticket)
 WHERE b.census = %s AND b.recorded > clock_timestamp() - interval '{RECENT} seconds'
 """
 WORKER = "kaldvemir work"
+# A transaction that cannot be undone because its connection is gone is undone by the server: psycopg's note of it tells nobody anything.
+logging.getLogger("psycopg").addHandler(logging.NullHandler())
 # Sessions of workers that have kept a transaction open for so long and wait for their client.
 STALLED = """
 SELECT pid, pg_terminate_backend(pid) FROM pg_stat_activity

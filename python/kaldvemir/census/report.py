@@ -138,8 +138,9 @@ def drawn(report: Report) -> RenderableType:
             ProgressBar(total=max(share.size, 1), completed=share.done if share.size else 1, width=24),
             Text(standing(share), style="red" if share.state == "lapsed" else ""),
         )
-    bar = ProgressBar(total=report.total, completed=report.committed, width=60)
-    return Group(headline(report), bar, table)
+    whole = ProgressBar(total=report.total, completed=report.committed, width=24)
+    table.add_row("all", f"1–{report.total:,}", f"{report.committed:,}", whole, "complete" if report.complete else "")
+    return Group(Text(headline(report)), table)
 
 
 def show(report: Report, console: Console) -> None:

@@ -11,6 +11,7 @@ import signal
 import threading
 import time
 from collections.abc import Callable
+from contextlib import suppress
 from types import FrameType
 from typing import TypeVar
 
@@ -23,6 +24,8 @@ BLOCK = 32_768
 """Rows of a block where no number is named."""
 PROGRESS = 10.0
 """Seconds between two lines that say how far a worker is."""
+LOOK = (0.1, 3.2)
+"""Seconds after which a worker without a share asks again: at first, and at most. The pause doubles meanwhile."""
 SHARE_OF_LEASE = 8
 """A block is to take at most this part of a lease: so there is time for several before it lapses."""
 
@@ -60,6 +63,7 @@ class Worker:
     def __init__(self, session: Session, stop: Stop, say: Callable[[str], None], block: int = BLOCK, progress: float = PROGRESS) -> None:
         self.session, self.stop, self.say, self.block, self.progress = session, stop, say, block, progress
         self._since, self._rows = time.monotonic(), 0
+        self._pause = LOOK[0]
 
     def work(self) -> bool:
         """Works until the book is complete, or until asked to stop: whether it is complete."""
@@ -69,6 +73,7 @@ class Worker:
             except Unreachable:
                 return False
             if isinstance(answer, Claim):
+                self._pause = LOOK[0]
                 self._share(answer)
             elif answer.complete:
                 return True
@@ -78,22 +83,30 @@ class Worker:
 
     def _wait(self, waiting: Waiting) -> None:
         seconds = self.session.census.seconds(waiting.ticks)
-        self.say(f"every share that is left is held; the first lease lapses in {seconds:g} s; waiting")
-        self.stop.pause(min(max(seconds, 0.2), 5.0))
+        if self._pause == LOOK[0]:
+            self.say(f"every share that is left is held; the first lease lapses in {seconds:g} s; waiting")
+        self.stop.pause(self._pause)
+        self._pause = min(2 * self._pause, LOOK[1])
 
     def _share(self, claim: Claim) -> None:
         """Lists a share from its next position on, as long as the ticket is good for it."""
         self.say(f"share {claim.share}: claimed with ticket {claim.ticket}, from position {claim.next} to {claim.last}")
         run = Run(self.session.census.size, claim.next - 1)
-        while claim.next <= claim.last and not self.stop:
-            begun = time.monotonic()
-            rows = run.rows(min(self.block, claim.last - claim.next + 1))
-            after = self._recorded(claim, rows.text, rows.given)
-            if after is None:
-                return self._give_back(claim)
-            self._told(claim, after, rows.given)
-            self._paced(time.monotonic() - begun)
-            claim = after
+        try:
+            while claim.next <= claim.last and not self.stop:
+                begun = time.monotonic()
+                rows = run.rows(min(self.block, claim.last - claim.next + 1))
+                after = self._recorded(claim, rows.text, rows.given)
+                if after is None:
+                    break
+                self._told(claim, after, rows.given)
+                self._paced(time.monotonic() - begun)
+                claim = after
+        except (Problem, Refused):
+            # Others need not wait for the lease of a worker that gives up.
+            with suppress(Problem, Refused):
+                self.session.release(claim)
+            raise
         if claim.next <= claim.last:
             self._give_back(claim)
 
@@ -124,8 +137,12 @@ class Worker:
             last = claim.next + given - 1
             self.say(f"share {claim.share}: rows {claim.next} to {last} thrown away, {refusal}; going on with another share")
         except Unreachable as problem:
-            self.say(f"share {claim.share}: {problem}; the book will tell what it has recorded")
+            self.say(f"share {claim.share}: {self._trouble(problem)}; the book will tell what it has recorded")
         return None
+
+    def _trouble(self, problem: Unreachable) -> str:
+        """What is wrong, and which sessions that were in the way have been ended."""
+        return "; ".join([str(problem), *self.session.store.stalled()])
 
     def _give_back(self, claim: Claim) -> None:
         """Gives the ticket back: where the session has been asked to stop, or does not know whether its last block was recorded."""
@@ -150,7 +167,7 @@ class Worker:
             except Unreachable as problem:
                 if self.stop:
                     raise
-                self.say("; ".join([str(problem), *self.session.store.stalled(), f"trying again in {pause:g} s"]))
+                self.say(f"{self._trouble(problem)}; trying again in {pause:g} s")
                 self.stop.pause(pause)
                 pause = min(2 * pause, 15.0)
 
