@@ -34,8 +34,10 @@ case "$db" in
     *) db=$PWD/$db ;;
 esac
 "$here/python/setup.sh" > /dev/null
-"$here/kaldvemir" open --db "$db" --size "$size" --shares "$shares" --resume
-"$here/kaldvemir" work --db "$db" --workers "$workers"
-"$here/kaldvemir" audit --db "$db"
-echo "The table is in $db. Print it with:"
-echo "  $here/kaldvemir rows --db '$db'"
+opened=$("$here/kaldvemir" open --db "$db" --size "$size" --shares "$shares" --resume)
+echo "$opened"
+census=$(echo "$opened" | sed -n 's/^census \([0-9]*\) in .*/\1/p')
+"$here/kaldvemir" work --db "$db" --census "$census" --workers "$workers"
+"$here/kaldvemir" audit --db "$db" --census "$census"
+echo "The table is kaldvemir_rows_$census in $db. Print it with:"
+echo "  $here/kaldvemir rows --db '$db' --census $census"

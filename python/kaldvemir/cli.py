@@ -108,18 +108,8 @@ def open_census(db: str, size: int, shares: int, tick: float, resume: bool) -> N
     Book.open(size, shares)  # so that a refusal comes before a file is made
     store = connect(db, create=True)
     _warned(store)
-    if resume:
-        try:
-            there = [census for census in store.censuses() if (census.size, census.shares) == (size, shares)]
-        except Problem:
-            there = []
-        if there:
-            return click.echo(_opened("going on with", there[-1], store))
-    click.echo(_opened("opened", store.open(size, shares, round(tick * 1000)), store))
-
-
-def _opened(verb: str, census: Census, store: Store) -> str:
-    return f"{verb} census {census.id} in {store.name}: size {census.size}, {census.shares} shares, rows in table {census.table}"
+    census = store.open(size, shares, round(tick * 1000), resume=resume)
+    click.echo(f"census {census.id} in {store.name}: size {census.size}, {census.shares} shares, rows in table {census.table}")
 
 
 @main.command()

@@ -40,17 +40,14 @@ def svg(s0: Sequence[int], s1: Sequence[int], root: int = 1, *, planar: bool) ->
 
     `planar` says that its genus is 0: then no two edges cross. The same diagram gives the same text.
     """
-    cuts = [] if planar else _cuts(s0, s1)
-    net = _net(s0, s1, cuts)
+    net = _net(s0, s1, []) if planar else min((_net(s0, s1, cuts) for cuts in _cuts(s0, s1)), key=lambda net: net.cost)
     chains = {i: net.chain(i) for i in range(1, len(s0) + 1)}
     look = _look(len(s0))
     curves = _drawing(s0, s1, net, chains, _relaxed(net), look) or _drawing(s0, s1, net, chains, _grid(net), look)
     if curves is None:
         raise ArithmeticError("no drawing was found in which the edges keep their order")
     crossings = {
-        edge: [piece for node, piece in zip(chains[edge], curves[edge]) if len(net.turn[node]) == 4]
-        for i in cuts
-        for edge in (i, s1[i - 1])
+        i: [piece for node, piece in zip(chains[i], curves[i]) if len(net.turn[node]) == 4] for i in net.bridges
     }
     return _document(s0, s1, root, curves, crossings, look)
 
@@ -85,6 +82,10 @@ class _Net:
         """For each edge the node of its white vertex."""
         self.slot: dict[int, int] = {}
         """For each edge its place in the turn of its black vertex."""
+        self.bridges: list[int] = []
+        """The edges that pass over others, the later over the earlier."""
+        self.cost = 0
+        """What the crossings cost: the fewer and the looser, the less."""
 
     def add(self, neighbours: Iterable[int] = ()) -> int:
         """A new node."""
@@ -150,19 +151,21 @@ def _net(s0: Sequence[int], s1: Sequence[int], cuts: Sequence[int]) -> _Net:
                 net.turn[node].append(white)
             net.white.update((i, white) for i in cycle)
     for i in cuts:
-        white = _bridge(net, middle[i], middle[s1[i - 1]])
-        net.white[i] = net.white[s1[i - 1]] = white
+        j = s1[i - 1]
+        net.white[i] = net.white[j] = _bridge(net, middle[i], middle[j])
+        net.bridges += [i, j]
     return net
 
 
-def _cuts(s0: Sequence[int], s1: Sequence[int]) -> list[int]:
-    """The lesser edges of white vertices without which the diagram lies in the plane: of several tries the fewest."""
+def _cuts(s0: Sequence[int], s1: Sequence[int]) -> list[list[int]]:
+    """Lists of white vertices without which the diagram lies in the plane, by their lesser edges: the shortest of many tries."""
     inner = [i for i in range(1, len(s0) + 1) if s1[i - 1] > i]
     chance = random.Random(1)
     tries = [_cuts_in_order(s0, s1, inner)]
     for _ in range(2000 // len(s0)):
         tries.append(_cuts_in_order(s0, s1, chance.sample(inner, len(inner))))
-    return min(tries, key=len)
+    fewest = min(map(len, tries))
+    return [list(cuts) for cuts in dict.fromkeys(tuple(cuts) for cuts in tries if len(cuts) == fewest)][:12]
 
 
 def _cuts_in_order(s0: Sequence[int], s1: Sequence[int], order: Sequence[int]) -> list[int]:
@@ -193,8 +196,8 @@ def _cuts_in_order(s0: Sequence[int], s1: Sequence[int], order: Sequence[int]) -
 
 def _bridge(net: _Net, start: int, end: int) -> int:
     """Join two ends by a path that crosses as few edges as possible, and return its white vertex."""
-    gates = _gates(net, start, end)
-    # A node in each face that it passes; the one half way is the white vertex.
+    gates, room = _gates(net, start, end)
+    # A node in each face that it passes.
     spans = [net.add() for _ in range(len(gates) + 1)]
     path = [start]
     for span, beyond, (u, v) in zip(spans, spans[1:], gates):
@@ -207,16 +210,17 @@ def _bridge(net: _Net, start: int, end: int) -> int:
         net.turn[span] = [before, after]
     net.turn[start].append(spans[0])
     net.turn[end].append(spans[-1])
-    return spans[len(gates) // 2]
+    return spans[room]
 
 
-def _gates(net: _Net, start: int, end: int) -> list[HalfEdge]:
-    """The half-edges crossed from right to left on a best way through the faces between two end nodes."""
+def _gates(net: _Net, start: int, end: int) -> tuple[list[HalfEdge], int]:
+    """The half-edges crossed from right to left on a best way through the faces between two end nodes, and the widest face's place."""
     import networkx as nx
 
     # To cross an edge beside which the bridge begins or ends gives a tight knot: worth a crossing more elsewhere.
     tight = {node for black in (net.turn[start][0], net.turn[end][0]) for node in net.turn[black]}
-    face_of = {half: number for number, face in enumerate(net.faces()) for half in face}
+    faces = net.faces()
+    face_of = {half: number for number, face in enumerate(faces) for half in face}
     shared: dict[tuple[int, int], list[HalfEdge]] = {}
     for (u, v), face in face_of.items():
         shared.setdefault((face, face_of[v, u]), []).append((u, v))
@@ -226,7 +230,9 @@ def _gates(net: _Net, start: int, end: int) -> list[HalfEdge]:
         dual.add_edge(*step, weight=2 if easy else 5)
         shared[step] = easy or halves
     way = nx.shortest_path(dual, face_of[start, net.turn[start][0]], face_of[end, net.turn[end][0]], "weight")
-    return [shared[step][len(shared[step]) // 2] for step in zip(way, way[1:])]
+    net.cost += sum(dual.edges[step]["weight"] for step in zip(way, way[1:]))
+    gates = [shared[step][len(shared[step]) // 2] for step in zip(way, way[1:])]
+    return gates, max(range(len(way)), key=lambda place: len(faces[way[place]]))
 
 
 # Places for the nodes: barycentric ones, or the library's.
@@ -241,17 +247,33 @@ def _grid(net: _Net) -> list[complex]:
 
 
 def _relaxed(net: _Net) -> list[complex]:
+    """A straight-line drawing of the net: of those with a long face outside the one that is least crowded anywhere."""
+    net.embedding()
+    faces = sorted(net.faces(), key=len, reverse=True)
+    drawings = [_barycentric(net, faces, outer) for outer in range(len(faces))[: 3 if len(net.turn) < 400 else 1]]
+    return max(drawings, key=_ease) if len(drawings) > 1 else drawings[0]
+
+
+def _ease(places: Sequence[complex]) -> float:
+    """How far crowded nodes are from their nearest others, the size of the drawing being 1."""
+    import numpy as np
+
+    points = np.array(places)
+    nearest = (abs(points[:, None] - points) + np.diag(np.full(len(points), np.inf))).min(0)
+    return float(np.quantile(nearest, 0.05) / points.std())
+
+
+def _barycentric(net: _Net, faces: Sequence[Sequence[HalfEdge]], outer: int) -> list[complex]:
     """A straight-line drawing of the net in which each node is a weighted mean of its neighbours (Tutte, Floater).
 
     Rings of further nodes in the faces make the net a triangulation, for which any positive weights give a drawing without crossings. They
-    are chosen in rounds: links in crowded regions are loosened, links in empty ones tightened.
+    are chosen in rounds: links in crowded regions are loosened, links in empty ones tightened, and the net's own links, if long.
     """
     import numpy as np
 
-    net.embedding()
-    links, rim = _mesh(net)
-    size = max(map(max, links)) + 1
+    links, rim = _mesh(net, faces, outer)
     tail, head = np.array(links).T
+    size = max(tail.max(), head.max()) + 1
     degree = np.bincount(tail, minlength=size) + np.bincount(head, minlength=size)
     places = np.zeros(size, complex)
     places[list(rim)] = list(rim.values())
@@ -266,30 +288,28 @@ def _relaxed(net: _Net) -> list[complex]:
         width = reach[tail] + reach[head]
         weights *= np.clip(width / width.mean(), 0.05, 20) ** 0.5
         weights[own] *= np.clip(length[own] / length[own].mean(), 0.05, 20) ** 0.4
-        weights = np.clip(weights / weights.mean(), 1e-4, 1e4)
+        weights = np.clip(weights / np.exp(np.log(weights).mean()), 1e-8, 1e8)
     return [complex(place) for place in places[: len(net.turn)]]
 
 
-def _mesh(net: _Net) -> tuple[list[HalfEdge], dict[int, complex]]:
-    """Links of a triangulation that contains the net, and the places of its outermost nodes, on a circle round the longest face."""
+def _mesh(net: _Net, faces: Sequence[Sequence[HalfEdge]], outer: int) -> tuple[list[HalfEdge], dict[int, complex]]:
+    """Links of a triangulation that contains the net, and the places of its outermost nodes, on a circle round the outer face."""
     links = [(u, v) for u, turn in enumerate(net.turn) for v in turn if u < v]
     size = len(net.turn)
-    faces = net.faces()
-    outer = max(faces, key=len)
     rim: dict[int, complex] = {}
-    for face in faces:
+    for number, face in enumerate(faces):
         ring = [u for u, _ in face]
-        for layer in range(5 if face is outer else min(3, 1 + len(face) // 16)):
+        for layer in range(5 if number == outer else min(3, 1 + len(face) // 16)):
             inner, ring = ring, list(range(size, size + len(face)))
             size += len(face)
             # Each node of a ring faces a link of the one before; the sense alternates, lest the rings twist.
             links += [(inner[k], ring[k]) for k in range(len(face))]
             links += [(inner[k], ring[k - 1 if layer % 2 else k + 1 - len(face)]) for k in range(len(face))]
             links += [(ring[k - 1], ring[k]) for k in range(len(face))]
-        if face is outer:
+        if number == outer:
             rim = dict(zip(ring, _circle(net, [u for u, _ in face])))
         else:
-            links += [(size, node) for node in ring]
+            links += [(node, size) for node in ring]
             size += 1
     return links, rim
 
@@ -459,13 +479,12 @@ def _half_loop(start: complex, end: complex, way: complex, bulge: float) -> Piec
 def _heading(i: int, s0: Sequence[int], chains: Chains, places: Sequence[complex]) -> complex:
     """The direction in which edge i leaves its black vertex: half way to directions that are evenly spread."""
     black = places[chains[i][0]]
-    others = dict.fromkeys(chains[k][1] for k in (i, s0[i - 1], s0[s0[i - 1] - 1]))
     way = places[chains[i][1]] - black
-    # From edge i counterclockwise to each: increasing, since the net keeps the order.
+    others = dict.fromkeys(chains[k][1] for k in (s0[i - 1], s0[s0[i - 1] - 1]) if chains[k][1] != chains[i][1])
+    # How far each of the others is counterclockwise from edge i, and how far it would be if all were evenly spread.
     turns = [cmath.phase((places[node] - black) / way) % (2 * math.pi) for node in others]
-    even = [2 * math.pi * k / len(turns) for k in range(len(turns))]
-    shift = sum(turns) / len(turns) - sum(even) / len(turns)
-    return _unit(way) * cmath.rect(1, shift / 2)
+    even = [2 * math.pi * (k + 1) / (len(turns) + 1) for k in range(len(turns))]
+    return _unit(way) * cmath.rect(1, 0.5 * (sum(turns) - sum(even)) / (len(turns) + 1))
 
 
 def _clashes(curves: Curves) -> set[int]:

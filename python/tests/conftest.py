@@ -2,6 +2,8 @@
 
 from __future__ import annotations
 
+import os
+import random
 import sys
 from pathlib import Path
 
@@ -9,7 +11,7 @@ import pytest
 
 sys.path.insert(0, str(Path(__file__).parents[1]))
 
-from parts import Server, postgresql_folder  # noqa: E402
+from parts import Proxy, Server, Sql, WorkerProcess, postgresql_folder  # noqa: E402
 
 
 @pytest.fixture(scope="session")
@@ -37,3 +39,41 @@ def database(request, tmp_path):
 def postgresql(server):
     """An empty database of the server."""
     return server.new_database()
+
+
+@pytest.fixture
+def by_hand(database):
+    """The tables of the database by SQL."""
+    tables = Sql(database)
+    yield tables
+    tables.close()
+
+
+@pytest.fixture
+def dice():
+    """Random choices. The seed is printed, so that a failure shows it; KALDVEMIR_SEED sets it."""
+    seed = int(os.environ.get("KALDVEMIR_SEED") or int.from_bytes(os.urandom(4), "big"))
+    print(f"KALDVEMIR_SEED={seed}")
+    return random.Random(seed)
+
+
+@pytest.fixture
+def worker(tmp_path):
+    """Starts workers as processes, `worker(database, *options)`, and ends those that are left."""
+    started = []
+
+    def start(database, *options):
+        started.append(WorkerProcess(database, tmp_path, *options))
+        return started[-1]
+
+    yield start
+    for each in started:
+        each.remove()
+
+
+@pytest.fixture
+def proxy(server):
+    """What cuts connections between a worker and the server."""
+    proxy = Proxy(server.port)
+    yield proxy
+    proxy.close()

@@ -4,18 +4,26 @@ from __future__ import annotations
 
 import glob
 import itertools
+import json
 import os
 import re
 import shutil
 import signal
 import socket
+import sqlite3
 import subprocess
 import sys
 import tempfile
+import threading
 import time
+from collections.abc import Callable
 from pathlib import Path
+from typing import Any
 
 import psycopg
+
+import kaldvemir
+from kaldvemir.census.formats import header, last_line
 
 PACKAGE = Path(__file__).parents[1]
 
@@ -115,14 +123,14 @@ class WorkerProcess:
     def text(self) -> str:
         return self.lines.read_text()
 
-    def says(self, pattern: str, seconds: float = 30.0) -> str:
-        """The first line of it that matches, waited for."""
+    def says(self, pattern: str, seconds: float = 30.0, since: int = 0) -> str:
+        """The first line of it that matches, after so many characters of its text, waited for."""
         end = time.monotonic() + seconds
         while time.monotonic() < end:
-            match = re.search(f"^.*(?:{pattern}).*$", self.text, re.MULTILINE)
+            match = re.search(f"^.*(?:{pattern}).*$", self.text[since:], re.MULTILINE)
             if match:
                 return match.group(0)
-            if self.process.poll() is not None and not re.search(pattern, self.text):
+            if self.process.poll() is not None and not re.search(pattern, self.text[since:]):
                 break
             time.sleep(0.01)
         raise AssertionError(f"a worker did not say {pattern!r}; it said:\n{self.text}")
@@ -147,3 +155,145 @@ class WorkerProcess:
             return self.process.wait(seconds)
         except subprocess.TimeoutExpired as error:
             raise AssertionError(f"a worker did not end in {seconds:g} s; it said:\n{self.text}") from error
+
+    def remove(self) -> None:
+        """Ends it, whatever it is doing; a supervisor ends its workers."""
+        self.signal(signal.SIGTERM)
+        self.wake()
+        try:
+            self.process.wait(10.0)
+        except subprocess.TimeoutExpired:
+            self.kill()
+
+
+class Sql:
+    """The tables of a database by hand, as the program itself never handles them."""
+
+    def __init__(self, database: str) -> None:
+        self._file = not database.startswith("postgresql:")
+        self._db: Any = sqlite3.connect(database, 30.0, isolation_level=None) if self._file else psycopg.connect(database, autocommit=True)
+
+    def __call__(self, statement: str, *values: Any) -> list[tuple[Any, ...]]:
+        if self._file:
+            cursor = self._db.execute(statement, [json.dumps(value) if isinstance(value, list) else value for value in values])
+        else:
+            cursor = self._db.execute(statement.replace("?", "%s"), values or None)
+        return cursor.fetchall() if cursor.description else []
+
+    def book(self) -> dict[str, Any]:
+        """The numbers of the only book, by name."""
+        names = ("size", "shares", "latest", "issued", "next", "ticket", "expiry")
+        [row] = self(f"SELECT {', '.join(names)} FROM kaldvemir_census")
+        return dict(zip(names, [json.loads(value) if isinstance(value, str) else value for value in row]))
+
+    def put(self, **numbers: Any) -> None:
+        """Writes numbers of the only book."""
+        self("UPDATE kaldvemir_census SET " + ", ".join(f"{name} = ?" for name in numbers), *numbers.values())
+
+    def everything(self) -> list[list[tuple[Any, ...]]]:
+        """All that the tables hold, to be compared with what they hold later."""
+        tables = {"kaldvemir_census": "id", "kaldvemir_ticket": "ticket", "kaldvemir_block": '"first"', "kaldvemir_rows_1": "position"}
+        return [self(f"SELECT * FROM {table} ORDER BY {key}") for table, key in tables.items()]
+
+    def close(self) -> None:
+        self._db.close()
+
+
+def opened(database: str, size: int, shares: int) -> None:
+    """A census with ticks so short that leases of a second lapse within a test."""
+    program("open", "--db", database, "--size", str(size), "--shares", str(shares), "--tick", "0.05")
+
+
+def finished(database: str, size: int) -> None:
+    """A worker goes on to the end; then the audit agrees, the table is the list, byte for byte, and nothing was recorded late."""
+    program("work", "--db", database, "--lease", "5", "--block", "500")
+    assert "complete: the table is the list" in program("audit", "--db", database).stdout
+    whole = [header(size), *kaldvemir.rows(size), last_line(kaldvemir.count(size), kaldvemir.kept_count(size))]
+    assert program("rows", "--db", database).stdout == "".join(line + "\n" for line in whole)
+    tables = Sql(database)
+    blocks = tables(
+        'SELECT t.share, b."first", b."last", b.ticket FROM kaldvemir_block b'
+        ' JOIN kaldvemir_ticket t ON t.census = b.census AND t.ticket = b.ticket ORDER BY b."first"'
+    )
+    assert [first for _, first, _, _ in blocks] == [1, *(last + 1 for _, _, last, _ in blocks[:-1])]
+    assert blocks[-1][2] == kaldvemir.count(size)
+    # Along each share tickets only go up: no block was recorded by a ticket after a later one had been issued.
+    by_share = sorted((share, first, ticket) for share, first, _, ticket in blocks)
+    assert sorted((share, ticket) for share, _, ticket in by_share) == [(share, ticket) for share, _, ticket in by_share]
+    assert tables("SELECT count(*) FROM kaldvemir_ticket") == [(tables.book()["issued"],)]
+    tables.close()
+
+
+class Proxy:
+    """Stands between a worker and the server. `rule` is handed each part that the client sends, with its number on that connection,
+    and says what becomes of it: "pass", "cut" (the connection ends before it), or "lose" (it arrives, and its answer is lost)."""
+
+    def __init__(self, port: int) -> None:
+        self._to = port
+        self._listener = socket.create_server(("127.0.0.1", 0))
+        self.rule: Callable[[int, bytes], str] = lambda number, part: "pass"
+        threading.Thread(target=self._accept, daemon=True).start()
+
+    def url(self, database: str) -> str:
+        """The address of a database through here, in plain text."""
+        return database.replace(f":{self._to}/", f":{self._listener.getsockname()[1]}/") + "?sslmode=disable&gssencmode=disable"
+
+    def _accept(self) -> None:
+        while True:
+            try:
+                client, _ = self._listener.accept()
+            except OSError:
+                return  # closed
+            threading.Thread(target=self._serve, args=(client,), daemon=True).start()
+
+    def _serve(self, client: socket.socket) -> None:
+        lost, answered = threading.Event(), threading.Event()
+        try:
+            with client, socket.create_connection(("127.0.0.1", self._to)) as server:
+                back = threading.Thread(target=self._back, args=(client, server, lost, answered), daemon=True)
+                back.start()
+                self._there(client, server, lost, answered)
+                self._end(client, server)
+                back.join()
+        except OSError:
+            pass  # the server is not there
+
+    def _there(self, client: socket.socket, server: socket.socket, lost: threading.Event, answered: threading.Event) -> None:
+        number = 0
+        try:
+            while part := client.recv(1 << 16):
+                number += 1
+                verdict = self.rule(number, part)
+                if verdict == "cut":
+                    return
+                if verdict == "lose":
+                    lost.set()
+                server.sendall(part)
+                if verdict == "lose":
+                    answered.wait(0.3)  # in vain where it is data of a COPY, which is not answered
+                    return
+        except OSError:
+            pass  # one side has ended
+
+    def _back(self, client: socket.socket, server: socket.socket, lost: threading.Event, answered: threading.Event) -> None:
+        try:
+            while part := server.recv(1 << 16):
+                if lost.is_set():
+                    answered.set()
+                else:
+                    client.sendall(part)
+        except OSError:
+            pass  # one side has ended
+        self._end(client, server)
+
+    @staticmethod
+    def _end(*sockets: socket.socket) -> None:
+        for each in sockets:
+            try:
+                each.shutdown(socket.SHUT_RDWR)
+            except OSError:
+                pass  # it has ended already
+
+    def close(self) -> None:
+        self._end(self._listener)
+        self._listener.close()

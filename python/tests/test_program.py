@@ -8,6 +8,7 @@ import json
 import os
 import sqlite3
 import subprocess
+from concurrent.futures import ThreadPoolExecutor
 from pathlib import Path
 
 import pytest
@@ -91,9 +92,15 @@ def test_a_database_holds_several_censuses_and_asks_which_is_meant(database):
 
 def test_opening_again_with_resume_goes_on(database):
     opened(database, 7, 2)
-    again = program("open", "--db", database, "--size", "7", "--shares", "2", "--resume").stdout
-    assert again.startswith("going on with census 1")
-    assert program("open", "--db", database, "--size", "7", "--shares", "3", "--resume").stdout.startswith("opened census 2")
+    assert program("open", "--db", database, "--size", "7", "--shares", "2", "--resume").stdout.startswith("census 1 in ")
+    assert program("open", "--db", database, "--size", "7", "--shares", "3", "--resume").stdout.startswith("census 2 in ")
+    assert program("open", "--db", database, "--size", "7", "--shares", "2").stdout.startswith("census 3 in ")
+
+
+def test_machines_that_open_at_once_find_one_census(database):
+    with ThreadPoolExecutor(4) as machines:
+        calls = [machines.submit(program, "open", "--db", database, "--size", "7", "--shares", "2", "--resume") for _ in range(4)]
+    assert {call.result().stdout.split(" in ")[0] for call in calls} == {"census 1"}
 
 
 @pytest.mark.parametrize("options, number", [(("51", "4"), 31), (("0", "4"), 31), (("9", "0"), 51), (("9", "33"), 51)])
@@ -134,7 +141,7 @@ def test_a_table_of_another_layout_is_not_touched(tmp_path):
 def test_libpq_finds_the_server_by_variables_and_service_file(server, postgresql, tmp_path):
     name = postgresql.rsplit("/", 1)[1]
     found = {"PGHOST": "127.0.0.1", "PGPORT": str(server.port), "PGUSER": "kaldvemir", "PGDATABASE": name}
-    assert "opened census 1" in _in_environment(found, "open", "--db", "postgresql://", "--size", "5", "--shares", "1").stdout
+    assert "census 1 in " in _in_environment(found, "open", "--db", "postgresql://", "--size", "5", "--shares", "1").stdout
     services = tmp_path / "services"
     services.write_text(f"[census]\nhost=127.0.0.1\nport={server.port}\nuser=kaldvemir\ndbname={name}\n")
     by_service = {"PGSERVICEFILE": str(services)}
@@ -160,7 +167,7 @@ def test_a_password_file_is_used(server, postgresql, tmp_path):
     wrong = program("report", "--db", address, check=False)
     assert wrong.returncode == 1 and "password" in wrong.stderr
     right = _in_environment({"PGPASSFILE": str(passwords)}, "open", "--db", address, "--size", "5", "--shares", "1")
-    assert "opened census 1" in right.stdout
+    assert "census 1 in " in right.stdout
 
 
 def test_draw_gives_a_picture_of_a_position_and_of_a_diagram(tmp_path):

@@ -80,7 +80,8 @@ class PostgreSQL(Store):
             given = conninfo_to_dict(address)
         except psycopg.Error as error:
             raise Problem(f"{address} is no address of a PostgreSQL server: {error}") from error
-        self.name = "postgresql://" + "".join(filter(None, [given.get("host"), "/" + str(given.get("dbname") or "")]))
+        named = {key: str(given.get(key) or os.environ.get("PG" + name, "")) for key, name in (("host", "HOST"), ("dbname", "DATABASE"))}
+        self.name = f"postgresql://{named['host']}/{named['dbname']}"
         given["application_name"] = WORKER
         if "PGCONNECT_TIMEOUT" not in os.environ:
             given.setdefault("connect_timeout", 10)
@@ -118,13 +119,16 @@ class PostgreSQL(Store):
         except psycopg.Error as error:
             raise Problem(f"{self.name}: {' '.join(str(error).split())}") from error
 
-    def open(self, size: int, shares: int, tick_ms: int) -> Census:
+    def open(self, size: int, shares: int, tick_ms: int, *, resume: bool = False) -> Census:
         book = Book.open(size, shares)
         marks = ", ".join(["%s"] * 9)
         with self._errors(), self._db.transaction():
-            # Two sessions that open their first census at the same time make the tables once.
+            # Sessions that open a census at the same time make the tables once, and find each other's.
             self._db.execute("SELECT pg_advisory_xact_lock(hashtext('kaldvemir'))")
             self._db.execute(TABLES)
+            there = self._like(size, shares) if resume else None
+            if there is not None:
+                return there
             [(number, opened)] = self._db.execute(
                 f"INSERT INTO kaldvemir_census (opened, layout, tick_ms, {BOOK}) VALUES (clock_timestamp(), {marks})"
                 " RETURNING id, extract(epoch FROM opened)::double precision",
@@ -222,13 +226,12 @@ class PostgreSQLReading(Reading):
         self.book = book_of(row[:7])
 
     def text(self, first: int, last: int) -> bytes:
-        columns = ", ".join(COLUMNS)
-        query = (
-            f"COPY (SELECT {columns} FROM {self._census.table} WHERE position BETWEEN {first:d} AND {last:d} ORDER BY position)"
-            " TO STDOUT (DELIMITER ' ')"
-        )
-        with self._errors(), self._db.cursor().copy(query) as copy:
-            return b"".join(bytes(part) for part in copy)
+        # The server puts the lines together, which is some five times quicker than to read them one by one.
+        query = f"""SELECT string_agg(concat_ws(' ', {', '.join(COLUMNS)}) || chr(10), '' ORDER BY position)
+                    FROM {self._census.table} WHERE position BETWEEN %s AND %s"""
+        with self._errors():
+            [(text,)] = self._db.execute(query, (first, last)).fetchall()
+        return (text or "").encode()
 
     def positions(self) -> tuple[int, int | None, int | None]:
         with self._errors():

@@ -106,10 +106,13 @@ class SQLite(Store):
                 self._db.execute("ROLLBACK")
             raise
 
-    def open(self, size: int, shares: int, tick_ms: int) -> Census:
+    def open(self, size: int, shares: int, tick_ms: int, *, resume: bool = False) -> Census:
         book = Book.open(size, shares)
         marks = ", ".join("?" * 9)
         with self._errors(), self._locked():
+            there = self._like(size, shares) if resume else None
+            if there is not None:
+                return there
             row = self._db.execute(
                 f"INSERT INTO kaldvemir_census (opened, layout, tick_ms, {BOOK}) VALUES ({CLOCK}, {marks}) RETURNING id, opened",
                 (LAYOUT, tick_ms, *self._stored(book)),

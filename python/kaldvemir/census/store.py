@@ -148,8 +148,9 @@ class Store(ABC):
     """The database as a user would name it, without a password."""
 
     @abstractmethod
-    def open(self, size: int, shares: int, tick_ms: int) -> Census:
-        """Opens a census, by the proved open. Refused 31 and 51."""
+    def open(self, size: int, shares: int, tick_ms: int, *, resume: bool = False) -> Census:
+        """Opens a census, by the proved open; with `resume`, finds the latest of this size and division, if there is one: so one of
+        several machines that begin at once opens it, and the others find it. Refused 31 and 51."""
 
     @abstractmethod
     def censuses(self) -> list[Census]:
@@ -187,6 +188,11 @@ class Store(ABC):
         if layout != LAYOUT:
             raise Problem(f"{self.name} was written by another version of this program (layout {layout}, this is {LAYOUT}): use that one")
         return Census(*values)
+
+    def _like(self, size: int, shares: int) -> Census | None:
+        """The latest census of that size and division."""
+        like = [census for census in self.censuses() if (census.size, census.shares) == (size, shares)]
+        return like[-1] if like else None
 
     def census(self, wanted: int | None) -> Census:
         """The census of that number; without a number, the only one."""
