@@ -407,14 +407,16 @@ def _drawing(
 
 
 def _scaled(chains: Chains, places: Sequence[complex], look: _Look) -> list[complex]:
-    """The places with the longer side of the picture level, so large that few edges are shorter than wanted."""
+    """The places with the longer side of the picture level, so large that few edges are short, if that is not too large."""
     centre = sum(places) / len(places)
     moment = sum((place - centre) ** 2 for place in places)
     # The angle's cut lies where no symmetric picture has it, so that rounding does not turn the picture over.
     turn = (cmath.phase(moment * cmath.exp(-1j)) + 1) / 2
+    places = [(place - centre) * cmath.rect(1, -turn) for place in places]
     lengths = sorted(sum(abs(places[v] - places[u]) for u, v in zip(chain, chain[1:])) for chain in chains.values())
-    scale = look.length / lengths[len(lengths) // 8]
-    return [_rounded((place - centre) * cmath.rect(scale, -turn)) for place in places]
+    extent = max(max(part) - min(part) for part in ([p.real for p in places], [p.imag for p in places]))
+    scale = min(look.length / lengths[len(lengths) // 8], look.length * (1 + 2.6 * math.sqrt(len(chains))) / extent)
+    return [_rounded(place * scale) for place in places]
 
 
 def _rounded(point: complex) -> complex:
@@ -524,8 +526,8 @@ def _disorder(s0: Sequence[int], curves: Curves) -> set[int]:
     wrong: set[int] = set()
     for cycle in _cycles(s0):
         ways = [curves[i][0][1] - curves[i][0][0] for i in cycle]
-        turns = [cmath.phase(way / ways[0]) % (2 * math.pi) for way in ways]
-        if any(after <= before for before, after in zip(turns, turns[1:])):
+        turns = [cmath.phase(way / ways[0]) % (2 * math.pi) for way in ways[1:]]
+        if any(after <= before for before, after in zip([0, *turns], turns)):
             wrong.update(cycle)
     return wrong
 
