@@ -25,7 +25,7 @@ from .census import Census, Problem, Snapshot, Store, Unreachable, connect
 from .census.audit import audit as audited
 from .census.audit import committed
 from .census.formats import FORMATS, header, last_line
-from .census.report import drawn, plain, report, show
+from .census.report import drawn, headline, plain, report, show
 from .census.session import LEASE, Session
 from .census.supervisor import Supervisor
 from .census.worker import BLOCK, PROGRESS, Stop, Worker, describe
@@ -34,6 +34,8 @@ from .lists import at
 from .refusals import Refused
 
 DATABASE = "kaldvemir.db"
+PATIENCE = 30.0
+"""Seconds after which a worker takes a session that it waits for to be stopped; the lease, where that is shorter."""
 
 
 def _guarded(command: Callable[..., None]) -> Callable[..., None]:
@@ -117,23 +119,28 @@ def open_census(db: str, size: int, shares: int, tick: float, resume: bool) -> N
 @click.option("--lease", type=click.FloatRange(min=0.001), default=LEASE, show_default=True, help="Seconds that a claim holds.")
 @click.option("--block", type=click.IntRange(1), default=BLOCK, show_default=True, help="Rows of one transaction.")
 @click.option("--name", help="What the report calls this worker.  [default: user@machine and the process]")
-@click.option("--alone", is_flag=True, hidden=True, help="Work in this process, and say no more than what happens.")
+@click.option("--alone", is_flag=True, hidden=True, help="Work in this process, under a supervisor.")
+@click.option("--progress", type=float, default=PROGRESS, hidden=True, help="Seconds between two lines that say how far it is.")
 @_options()
-def work(db: str, census: int | None, workers: int, lease: float, block: int, name: str | None, alone: bool) -> None:
+def work(
+    db: str, census: int | None, workers: int, lease: float, block: int, name: str | None, alone: bool, progress: float
+) -> None:
     """Work on a census until it is complete. Ctrl-C gives the tickets back.
 
     A lease that has less than a quarter left is renewed with the next block, which uses up one of the book's 65,535 tickets. A worker
     that dies leaves its share to others once its lease has lapsed.
     """
     console = Console()
-    if workers == 1 and (alone or not console.is_terminal):
-        return _work_here(db, census, lease, block, name, 1e9 if alone else PROGRESS)
-    store = connect(db)
-    _warned(store)
+    store = connect(db, patience=min(PATIENCE, lease))
     chosen = store.census(census)
-    command = ["work", "--db", db, "--census", str(chosen.id), "--lease", str(lease), "--block", str(block)]
-    if console.is_terminal:
-        command.append("--alone")
+    if not alone:
+        _warned(store)
+    if alone or (workers == 1 and not console.is_terminal):
+        return _work_here(Session(store, chosen, name or _here(), lease), block, progress)
+    # At a terminal the bars say how far it is.
+    progress = 1e9 if console.is_terminal else progress
+    command = ["work", "--alone", "--db", db, "--census", str(chosen.id), "--lease", str(lease), "--block", str(block)]
+    command += ["--progress", str(progress)]
     if name:
         command += ["--name", name]
     tell = functools.partial(console.print, highlight=False, markup=False, soft_wrap=True)
@@ -142,21 +149,18 @@ def work(db: str, census: int | None, workers: int, lease: float, block: int, na
     sys.exit(status)
 
 
-def _work_here(db: str, wanted: int | None, lease: float, block: int, name: str | None, progress: float) -> None:
+def _here() -> str:
+    return f"{getpass.getuser()}@{socket.gethostname()} process {os.getpid()}"
+
+
+def _work_here(session: Session, block: int, progress: float) -> None:
     stop = Stop()
     stop.listen()
-    # Who keeps a transaction open for longer than this is taken for stopped; a lease that has lapsed need not be waited for.
-    store = connect(db, patience=min(30.0, lease))
-    census = store.census(wanted)
-    _warned(store)
-    holder = name or f"{getpass.getuser()}@{socket.gethostname()} process {os.getpid()}"
     try:
-        complete = Worker(Session(store, census, holder, lease), stop, _say, block, progress).work()
+        complete = Worker(session, stop, _say, block, progress).work()
     except Refused as refusal:
         raise describe(refusal) from refusal
-    finally:
-        store.close()
-    _say(f"census {census.id} is complete" if complete else "stopped")
+    _say(f"census {session.census.id} is complete" if complete else "stopped")
     if not complete:
         sys.exit(128 + (stop.signal or 0))
 
@@ -170,8 +174,13 @@ def _looked(store: Store, census: Census) -> Snapshot:
 @click.option("--watch", is_flag=True, help="Look again every second, until the census is complete.")
 @_options()
 def report_census(db: str, census: int | None, watch: bool) -> None:
-    """Show each share with its holder and the time left, the rate, and the time to go."""
+    """Show each share with its holder and the time left, the rate, and the time to go; of several censuses, a line each."""
     store, console = connect(db), Console()
+    there = store.censuses()
+    if census is None and len(there) > 1 and not watch:
+        for each in there:
+            click.echo(headline(report(store.snapshot(each))))
+        return
     chosen = store.census(census)
     now = report(store.snapshot(chosen))
     if not watch:

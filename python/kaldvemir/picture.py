@@ -247,11 +247,24 @@ def _grid(net: _Net) -> list[complex]:
 
 
 def _relaxed(net: _Net) -> list[complex]:
-    """A straight-line drawing of the net: of those with a long face outside the one that is least crowded anywhere."""
+    """A straight-line drawing of the net: of those with a long face outside, near to all nodes, the one that is least crowded anywhere."""
     net.embedding()
     faces = sorted(net.faces(), key=len, reverse=True)
-    drawings = [_barycentric(net, faces, outer) for outer in range(len(faces))[: 3 if len(net.turn) < 400 else 1]]
+    outers = sorted(range(len(faces))[:8], key=lambda number: sum(_depths(net, faces[number]).values()))
+    drawings = [_barycentric(net, faces, outer) for outer in outers[: 3 if len(net.turn) < 400 else 1]]
     return max(drawings, key=_ease) if len(drawings) > 1 else drawings[0]
+
+
+def _depths(net: _Net, face: Sequence[HalfEdge]) -> dict[int, int]:
+    """How many steps each node is from the face."""
+    depths = {node: 0 for node, _ in face}
+    queue = list(depths)
+    for node in queue:
+        for further in net.turn[node]:
+            if further not in depths:
+                depths[further] = depths[node] + 1
+                queue.append(further)
+    return depths
 
 
 def _ease(places: Sequence[complex]) -> float:
@@ -266,8 +279,8 @@ def _ease(places: Sequence[complex]) -> float:
 def _barycentric(net: _Net, faces: Sequence[Sequence[HalfEdge]], outer: int) -> list[complex]:
     """A straight-line drawing of the net in which each node is a weighted mean of its neighbours (Tutte, Floater).
 
-    Rings of further nodes in the faces make the net a triangulation, for which any positive weights give a drawing without crossings. They
-    are chosen in rounds: links in crowded regions are loosened, links in empty ones tightened, and the net's own links, if long.
+    Rings of further nodes in the faces make the net 3-connected, so that any positive weights give a drawing without crossings. They are
+    chosen in rounds: links in crowded regions are loosened, links in empty ones tightened, and so are the net's own links where long.
     """
     import numpy as np
 
@@ -281,41 +294,48 @@ def _barycentric(net: _Net, faces: Sequence[Sequence[HalfEdge]], outer: int) -> 
     free[list(rim)] = False
     weights = np.ones(len(links))
     own = head < len(net.turn)
-    for _ in range(12):
-        places = _balanced(places, free, tail, head, weights)
+    for precision in [1e-6] * 11 + [1e-10]:
+        places = _balanced(places, free, tail, head, weights, precision)
         length = abs(places[tail] - places[head])
         reach = (np.bincount(tail, length, size) + np.bincount(head, length, size)) / degree
         width = reach[tail] + reach[head]
-        weights *= np.clip(width / width.mean(), 0.05, 20) ** 0.5
-        weights[own] *= np.clip(length[own] / length[own].mean(), 0.05, 20) ** 0.4
-        weights = np.clip(weights / np.exp(np.log(weights).mean()), 1e-8, 1e8)
+        weights *= np.maximum(width / width.mean(), 1e-4) ** 0.5
+        weights[own] *= np.maximum(length[own] / length[own].mean(), 1e-4) ** 0.4
+        weights = np.clip(weights / np.exp(np.log(weights).mean()), 1e-12, 1e12)
     return [complex(place) for place in places[: len(net.turn)]]
 
 
 def _mesh(net: _Net, faces: Sequence[Sequence[HalfEdge]], outer: int) -> tuple[list[HalfEdge], dict[int, complex]]:
-    """Links of a triangulation that contains the net, and the places of its outermost nodes, on a circle round the outer face."""
+    """Links of a 3-connected plane graph that contains the net, and the places of its outermost nodes, on a circle."""
     links = [(u, v) for u, turn in enumerate(net.turn) for v in turn if u < v]
     size = len(net.turn)
     rim: dict[int, complex] = {}
     for number, face in enumerate(faces):
         ring = [u for u, _ in face]
-        for layer in range(5 if number == outer else min(3, 1 + len(face) // 16)):
-            inner, ring = ring, list(range(size, size + len(face)))
-            size += len(face)
-            # Each node of a ring faces a link of the one before; the sense alternates, lest the rings twist.
-            links += [(inner[k], ring[k]) for k in range(len(face))]
-            links += [(inner[k], ring[k - 1 if layer % 2 else k + 1 - len(face)]) for k in range(len(face))]
-            links += [(ring[k - 1], ring[k]) for k in range(len(face))]
+        room = _room(net, ring)
+        # The first ring is woven to the face, then come some as long, then each is half as long as the one before.
+        plain, least = (4, 16) if number == outer else (1, 12)
+        layer = 0
+        while layer < plain or len(ring) > least:
+            pace = 1 if layer < plain else 2
+            inner, ring = ring, list(range(size, size + (len(ring) + pace - 1) // pace))
+            room = [sum(room[k : k + pace]) for k in range(0, len(room), pace)]
+            links += [(node, ring[k // pace]) for k, node in enumerate(inner)]
+            links += [(node, ring[k - 1]) for k, node in enumerate(inner) if layer == 0]
+            links += [(ring[k - 1], ring[k]) for k in range(len(ring))]
+            size += len(ring)
+            layer += 1
         if number == outer:
-            rim = dict(zip(ring, _circle(net, [u for u, _ in face])))
+            turns = [2 * math.pi * (sum(room[:k]) + part / 2) / sum(room) for k, part in enumerate(room)]
+            rim = {node: cmath.rect(1, turn) for node, turn in zip(ring, turns)}
         else:
             links += [(node, size) for node in ring]
             size += 1
     return links, rim
 
 
-def _circle(net: _Net, boundary: Sequence[int]) -> list[complex]:
-    """Points on a circle for the corners of the outer face: a corner gets the more room, the more nodes lie behind it."""
+def _room(net: _Net, boundary: Sequence[int]) -> list[float]:
+    """How much of the circle the corners of the outer face get: the more, the more nodes lie behind them."""
     behind = {node: node for node in boundary}
     queue = list(behind)
     for node in queue:
@@ -324,15 +344,10 @@ def _circle(net: _Net, boundary: Sequence[int]) -> list[complex]:
                 behind[further] = behind[node]
                 queue.append(further)
     load, corners = Counter(behind.values()), Counter(boundary)
-    room = [(load[node] / corners[node]) ** 0.75 for node in boundary]
-    turn, points = 0.0, []
-    for part in room:
-        points.append(cmath.rect(1, 2 * math.pi * (turn + part / 2) / sum(room)))
-        turn += part
-    return points
+    return [(load[node] / corners[node]) ** 0.75 for node in boundary]
 
 
-def _balanced(places: Any, free: Any, tail: Any, head: Any, weights: Any) -> Any:
+def _balanced(places: Any, free: Any, tail: Any, head: Any, weights: Any, precision: float) -> Any:
     """Places at which every free node is the weighted mean of its neighbours: conjugate gradients."""
     import numpy as np
 
@@ -340,8 +355,8 @@ def _balanced(places: Any, free: Any, tail: Any, head: Any, weights: Any) -> Any
 
     def pull(points: Any) -> Any:
         force = weights * (points[tail] - points[head])
-        out, back = (sum(scale * np.bincount(end, part, size) for scale, part in ((1, force.real), (1j, force.imag))) for end in (tail, head))
-        return np.where(free, out - back, 0)
+        x, y = (np.bincount(tail, part, size) - np.bincount(head, part, size) for part in (force.real, force.imag))
+        return np.where(free, x + 1j * y, 0)
 
     spread = np.bincount(tail, weights, size) + np.bincount(head, weights, size)
     places = places.copy()
@@ -349,7 +364,7 @@ def _balanced(places: Any, free: Any, tail: Any, head: Any, weights: Any) -> Any
     step = rest / spread
     power = (rest.conj() * step).real.sum()
     for _ in range(4 * size):
-        if abs(rest / spread).max() < 1e-10:
+        if abs(rest / spread).max() < precision:
             break
         tension = pull(step)
         length = power / (step.conj() * tension).real.sum()

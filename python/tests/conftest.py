@@ -13,6 +13,9 @@ sys.path.insert(0, str(Path(__file__).parents[1]))
 
 from parts import Proxy, Server, Sql, WorkerProcess, postgresql_folder  # noqa: E402
 
+from kaldvemir.census import connect  # noqa: E402
+from kaldvemir.census.session import Session  # noqa: E402
+
 
 @pytest.fixture(scope="session")
 def server(tmp_path_factory):
@@ -47,6 +50,20 @@ def by_hand(database):
     tables = Sql(database)
     yield tables
     tables.close()
+
+
+@pytest.fixture
+def session(database):
+    """Sessions in this process, each with a connection of its own: `session(lease)`."""
+    stores = []
+
+    def begin(lease):
+        stores.append(connect(database, patience=10.0))
+        return Session(stores[-1], stores[-1].census(None), f"session {len(stores)}", lease)
+
+    yield begin
+    for store in stores:
+        store.close()
 
 
 @pytest.fixture

@@ -88,6 +88,8 @@ def test_a_database_holds_several_censuses_and_asks_which_is_meant(database):
     program("work", "--db", database, "--census", "2")
     assert program("rows", "--db", database, "--census", "2").stdout == census_text(8)
     assert "0 of 42 positions" in program("report", "--db", database, "--census", "1").stdout
+    both = program("report", "--db", database).stdout.splitlines()
+    assert [line.split(" positions")[0] for line in both] == ["census 1, size 7: 0 of 42", "census 2, size 8: 40 of 40"]
 
 
 def test_opening_again_with_resume_goes_on(database):

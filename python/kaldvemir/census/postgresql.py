@@ -103,6 +103,8 @@ class PostgreSQL(Store):
             return connection
         except psycopg.OperationalError as error:
             raise Unreachable(f"{self.name} does not answer: {' '.join(str(error).split())}") from error
+        except psycopg.Error as error:
+            raise Problem(f"{self.name}: {' '.join(str(error).split())}") from error
 
     @contextmanager
     def _errors(self) -> Iterator[None]:

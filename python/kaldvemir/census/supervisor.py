@@ -15,6 +15,7 @@ from types import FrameType
 from rich.console import Console
 from rich.live import Live
 
+from ..refusals import Refused
 from .report import drawn, report
 from .store import Problem, Snapshot
 
@@ -80,8 +81,8 @@ class Supervisor:
     def _show(look: Callable[[], Snapshot], live: Live) -> None:
         try:
             live.update(drawn(report(look())))
-        except Problem:
-            return  # the workers say what is wrong with the database
+        except (Problem, Refused):
+            return  # the workers say what is wrong
 
     def _status(self) -> int:
         for number, worker in enumerate(self._workers, 1):
