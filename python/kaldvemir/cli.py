@@ -21,7 +21,7 @@ from rich.progress import BarColumn, MofNCompleteColumn, Progress, TextColumn, T
 
 from . import __version__
 from .book import Book
-from .census import Census, Problem, Snapshot, Store, Unreachable, connect
+from .census import Census, Damage, Problem, Snapshot, Store, Unreachable, connect
 from .census.audit import audit as audited
 from .census.audit import committed
 from .census.formats import FORMATS, header, last_line
@@ -248,7 +248,11 @@ def _rows(reading: Any, stretches: list[tuple[int, int]], kept: bool, counted: d
     step = 8_192
     for first, last in stretches:
         for start in range(first, last + 1, step):
-            for line in reading.text(start, min(last, start + step - 1)).decode().splitlines():
+            end = min(last, start + step - 1)
+            lines = reading.text(start, end).decode().splitlines()
+            if len(lines) != end - start + 1:
+                raise Damage(f"the table has {len(lines)} rows from {start} to {end}, where the book says that all are: run `kaldvemir audit`")
+            for line in lines:
                 marked = line.endswith(" K")
                 counted["listed"] += 1
                 counted["kept"] += marked

@@ -224,7 +224,7 @@ def listed(size: int, claim: Any, number: int = 20) -> tuple[bytes, int]:
 
 def finished(database: str, size: int) -> None:
     """A worker goes on to the end; then the audit agrees, the table is the list, byte for byte, and nothing was recorded late."""
-    program("work", "--db", database, "--lease", "5", "--block", "500")
+    program("work", "--db", database, "--lease", "5", "--block", "2000")
     status, said = asked("audit", "--db", database)
     assert status == 0 and "complete: the table is the list" in said
     whole = [header(size), *kaldvemir.rows(size), last_line(kaldvemir.count(size), kaldvemir.kept_count(size))]
@@ -244,13 +244,13 @@ def finished(database: str, size: int) -> None:
 
 
 class Proxy:
-    """Stands between a worker and the server. `rule` is handed each part that the client sends, with its number on that connection,
-    and says what becomes of it: "pass", "cut" (the connection ends before it), or "lose" (it arrives, and its answer is lost)."""
+    """Stands between a worker and the server. `rule` is handed each part that a client sends and says what becomes of it: "pass",
+    "cut" (the connection ends before it), or "lose" (it arrives, and its answer is lost). A connection keeps the rule it began with."""
 
     def __init__(self, port: int) -> None:
         self._to = port
         self._listener = socket.create_server(("127.0.0.1", 0))
-        self.rule: Callable[[int, bytes], str] = lambda number, part: "pass"
+        self.rule: Callable[[bytes], str] = lambda part: "pass"
         threading.Thread(target=self._accept, daemon=True).start()
 
     def url(self, database: str) -> str:
@@ -263,26 +263,26 @@ class Proxy:
                 client, _ = self._listener.accept()
             except OSError:
                 return  # closed
-            threading.Thread(target=self._serve, args=(client,), daemon=True).start()
+            threading.Thread(target=self._serve, args=(client, self.rule), daemon=True).start()
 
-    def _serve(self, client: socket.socket) -> None:
+    def _serve(self, client: socket.socket, rule: Callable[[bytes], str]) -> None:
         lost, answered = threading.Event(), threading.Event()
         try:
             with client, socket.create_connection(("127.0.0.1", self._to)) as server:
                 back = threading.Thread(target=self._back, args=(client, server, lost, answered), daemon=True)
                 back.start()
-                self._there(client, server, lost, answered)
+                self._there(client, server, rule, lost, answered)
                 self._end(client, server)
                 back.join()
         except OSError:
             pass  # the server is not there
 
-    def _there(self, client: socket.socket, server: socket.socket, lost: threading.Event, answered: threading.Event) -> None:
-        number = 0
+    def _there(
+        self, client: socket.socket, server: socket.socket, rule: Callable[[bytes], str], lost: threading.Event, answered: threading.Event
+    ) -> None:
         try:
             while part := client.recv(1 << 16):
-                number += 1
-                verdict = self.rule(number, part)
+                verdict = rule(part)
                 if verdict == "cut":
                     return
                 if verdict == "lose":

@@ -72,8 +72,7 @@ def test_a_lapsed_session_neither_frees_nor_writes_what_a_later_one_holds(databa
 def test_a_lapsed_session_is_refused_although_nobody_has_claimed_its_share(database, by_hand, session):
     opened(database, 12, 2)
     early = session(0.3)
-    claim = early.claim()
-    late = early.record(claim, *listed(12, claim))
+    late = early.claim()
     time.sleep(0.4)
     before = by_hand.everything()
     refused(59, early.release, late)
@@ -125,7 +124,7 @@ def test_a_worker_stopped_within_a_transaction_is_put_aside(postgresql, proxy, w
     opened(postgresql, 15, 1)
     awake, stopped, sent = threading.Event(), threading.Event(), []
 
-    def rule(_, part):
+    def rule(part):
         if stopped.is_set() or not (sent or b"COPY" in part):
             return "pass"
         # In the middle of a COPY: so much has arrived that the server has written rows, and the rest is kept back.
@@ -157,8 +156,9 @@ def test_workers_killed_at_random_moments_leave_whole_blocks(database, worker, d
     opened(database, 16, 2)
     for _ in range(3):
         victims = [worker(database, *SLOW) for _ in range(2)]
-        for victim in victims:
-            victim.says("claimed with ticket")
+        while not any("claimed with ticket" in victim.text for victim in victims):
+            assert any(victim.process.poll() is None for victim in victims)
+            time.sleep(0.01)
         time.sleep(dice.uniform(0.0, 0.3))
         for victim in victims:
             victim.kill()
@@ -166,8 +166,8 @@ def test_workers_killed_at_random_moments_leave_whole_blocks(database, worker, d
 
 
 def test_workers_go_on_after_their_server_was_stopped_at_once(server, postgresql, worker, dice):
-    opened(postgresql, 15, 2)
-    workers = [worker(postgresql, *SHORT) for _ in range(2)]
+    opened(postgresql, 14, 2)
+    workers = [worker(postgresql, "--lease", "1.0", "--block", "5") for _ in range(2)]
     for each in workers:
         each.says("claimed with ticket")
     for _ in range(3):
@@ -177,7 +177,7 @@ def test_workers_go_on_after_their_server_was_stopped_at_once(server, postgresql
         server.start()
     assert [each.end() for each in workers] == [0, 0]
     assert "the book will tell" in workers[0].text + workers[1].text
-    finished(postgresql, 15)
+    finished(postgresql, 14)
 
 
 def test_workers_go_on_after_their_sessions_were_ended_by_hand(postgresql, worker, dice):
@@ -228,20 +228,25 @@ def agrees(database):
     store.close()
 
 
+def cut_at(number, verdict, cut):
+    """A rule: the part of that number is cut off or its answer lost, and it is noted; what comes before and after passes."""
+    parts = itertools.count(1)
+
+    def rule(part):
+        if next(parts) != number:
+            return "pass"
+        cut.append(part)
+        return verdict
+
+    return rule
+
+
 @pytest.mark.parametrize("verdict", ["cut", "lose"])
 def test_a_connection_cut_at_any_message_leaves_table_and_book_in_step(postgresql, proxy, verdict):
     opened(postgresql, 13, 1)
     cut = []
     for number in itertools.count(1):
-        parts = itertools.count(1)
-
-        def rule(_, part):
-            if next(parts) != number:
-                return "pass"
-            cut.append(part)
-            return verdict
-
-        proxy.rule = rule
+        proxy.rule = cut_at(number, verdict, cut)
         with suppress(Unreachable):  # a worker does not begin without a connection
             worked(proxy.url(postgresql), 2, 5)
         agrees(postgresql)
@@ -258,7 +263,7 @@ def test_a_block_whose_commit_was_answered_to_nobody_is_not_recorded_again(postg
     opened(postgresql, 12, 2)
     seen = []
 
-    def rule(_, part):
+    def rule(part):
         seen.extend(word for word in (b"COPY", b"COMMIT") if word in part)
         if seen[-2:] != [b"COPY", b"COMMIT"]:
             return "pass"
@@ -305,14 +310,14 @@ def test_workers_that_race_for_every_share_get_each_row_in_once(database, by_han
 
 @pytest.mark.parametrize("workers, number", [(1, signal.SIGINT), (2, signal.SIGINT), (2, signal.SIGTERM)])
 def test_workers_asked_to_stop_give_their_tickets_back(database, by_hand, worker, dice, workers, number):
-    opened(database, 15, 2)
-    held = worker(database, "--workers", str(workers), "--lease", "600", "--block", "1")
-    for share in range(1, workers + 1):
-        held.says(f"share {share}: claimed with ticket")
+    opened(database, 19, 2)
+    held = worker(database, "--workers", str(workers), "--lease", "600", "--block", "50")
+    for each in range(1, workers + 1):
+        held.says("claimed with ticket" if workers == 1 else f"worker {each}: .*claimed with ticket")
     time.sleep(dice.uniform(0.0, 0.2))
     ended(held, number)
     assert by_hand.book()["ticket"] == by_hand.book()["expiry"] == [0] * 32
-    finished(database, 15)  # at once: a lease of 600 seconds is not waited for
+    finished(database, 19)  # at once: a lease of 600 seconds is not waited for
 
 
 def test_a_lease_is_renewed_by_new_tickets_and_its_share_is_never_free(database, by_hand, worker):
@@ -323,7 +328,8 @@ def test_a_lease_is_renewed_by_new_tickets_and_its_share_is_never_free(database,
     while len(seen) < 4:
         assert held.process.poll() is None, held.text
         seen.add(by_hand.book()["ticket"][0])
+        time.sleep(0.005)
     assert 0 not in seen
-    held.says("lease renewed, ticket 2 in place of 1")
+    held.says("lease renewed, ticket . in place of")
     ended(held, signal.SIGTERM)
     finished(database, 16)

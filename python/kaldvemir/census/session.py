@@ -47,7 +47,7 @@ class Session:
     def __init__(self, store: Store, census: Census, holder: str, lease: float = LEASE) -> None:
         self.store, self.census, self.holder = store, census, holder
         self.length = census.ticks(lease)
-        self._lasts = [last for _, last in census.stretches()]
+        self._lasts: list[int] = []
 
     def claim(self) -> Claim | Waiting:
         """The first share that the book gives: one that is free, or whose ticket has lapsed."""
@@ -66,6 +66,8 @@ class Session:
     def _claim(self, turn: Turn, share: int) -> Claim:
         ticket = turn.book.claim(turn.tick, share, self.length)
         turn.tickets.append(TicketNote(ticket, share, self.holder))
+        # Where the library has accepted a claim the book is valid, and so are the numbers that the census has from it.
+        self._lasts = self._lasts or [last for _, last in self.census.stretches()]
         return Claim(share, ticket, turn.book.expiry(share), turn.tick, turn.book.next(share), self._lasts[share - 1])
 
     def record(self, claim: Claim, text: bytes, given: int) -> Claim:

@@ -7,7 +7,9 @@ mode with synchronous=FULL: a turn that has been committed outlives a crash and 
 from __future__ import annotations
 
 import json
+import random
 import sqlite3
+import time
 from collections.abc import Callable, Iterator
 from contextlib import contextmanager
 from pathlib import Path
@@ -95,9 +97,26 @@ class SQLite(Store):
         except sqlite3.DatabaseError as error:
             raise Problem(f"{self.name}: {error}") from error
 
+    def _begin(self) -> None:
+        """Waits for the file's write lock. SQLite itself would look for it ten times a second, and a session that does could wait long
+        for one that records block after block."""
+        end = time.monotonic() + self._patience
+        self._db.execute("PRAGMA busy_timeout = 0")
+        try:
+            while True:
+                try:
+                    self._db.execute("BEGIN IMMEDIATE")
+                    return
+                except sqlite3.OperationalError as error:
+                    if "locked" not in str(error) or time.monotonic() > end:
+                        raise
+                    time.sleep(random.uniform(0.001, 0.01))
+        finally:
+            self._db.execute(f"PRAGMA busy_timeout = {int(self._patience * 1000)}")
+
     @contextmanager
     def _locked(self) -> Iterator[None]:
-        self._db.execute("BEGIN IMMEDIATE")
+        self._begin()
         try:
             yield
             self._db.execute("COMMIT")

@@ -177,15 +177,17 @@ class Worker:
             try:
                 return call()
             except Refused as refusal:
-                if refusal.number != 52 or self.stop:
+                if refusal.number != 52:
                     raise
-                self.say(self._behind())
+                behind = f"refused 52: the database's clock is {self._behind():g} s behind the latest call"
+                if self.stop:
+                    raise Unreachable(behind) from refusal
+                self.say(f"{behind}; waiting for it")
                 self.stop.pause(1.0)
 
-    def _behind(self) -> str:
+    def _behind(self) -> float:
         snapshot = self.session.store.snapshot(self.session.census)
-        seconds = self.session.census.seconds(snapshot.book.latest - snapshot.tick)
-        return f"refused 52: the database's clock is {seconds:g} s behind the latest call; waiting for it"
+        return self.session.census.seconds(snapshot.book.latest - snapshot.tick)
 
 
 def describe(refusal: Refused) -> Problem:
