@@ -122,9 +122,7 @@ def open_census(db: str, size: int, shares: int, tick: float, resume: bool) -> N
 @click.option("--alone", is_flag=True, hidden=True, help="Work in this process, under a supervisor.")
 @click.option("--progress", type=float, default=PROGRESS, hidden=True, help="Seconds between two lines that say how far it is.")
 @_options()
-def work(
-    db: str, census: int | None, workers: int, lease: float, block: int, name: str | None, alone: bool, progress: float
-) -> None:
+def work(db: str, census: int | None, workers: int, lease: float, block: int, name: str | None, alone: bool, progress: float) -> None:
     """Work on a census until it is complete. Ctrl-C gives the tickets back.
 
     A lease that has less than a quarter left is renewed with the next block, which uses up one of the book's 65,535 tickets. A worker
@@ -251,7 +249,9 @@ def _rows(reading: Any, stretches: list[tuple[int, int]], kept: bool, counted: d
             end = min(last, start + step - 1)
             lines = reading.text(start, end).decode().splitlines()
             if len(lines) != end - start + 1:
-                raise Damage(f"the table has {len(lines)} rows from {start} to {end}, where the book says that all are: run `kaldvemir audit`")
+                raise Damage(
+                    f"the table has {len(lines)} rows from {start} to {end}, where the book says that all are: run `kaldvemir audit`"
+                )
             for line in lines:
                 marked = line.endswith(" K")
                 counted["listed"] += 1
@@ -276,8 +276,10 @@ def audit(db: str, census: int | None) -> None:
         compared = audited(reading, chosen, lambda done: progress.update(task, completed=done))
         complete = reading.book.report().complete
     state = "complete: the table is the list" if complete else "not complete yet: the table is the part of the list that the book says"
-    click.echo(f"census {chosen.id}, size {chosen.size}: {compared:,} rows agree with the proved rows, byte for byte, and the book agrees;"
-               f" it is {state}")
+    click.echo(
+        f"census {chosen.id}, size {chosen.size}: {compared:,} rows agree with the proved rows, byte for byte, and the book agrees;"
+        f" it is {state}"
+    )
 
 
 @main.command()

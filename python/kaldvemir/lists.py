@@ -93,9 +93,7 @@ class Run:
         if len(self._bytes) < needed:
             self._bytes = (c_uint8 * needed)()
         given, written, kept = lib.number(), lib.number(), lib.number()
-        lib.call(
-            "rows", lib.ref(self.numbers), lib.unsigned(rows), self._bytes, len(self._bytes), *map(lib.ref, (given, written, kept))
-        )
+        lib.call("rows", lib.ref(self.numbers), lib.unsigned(rows), self._bytes, len(self._bytes), *map(lib.ref, (given, written, kept)))
         return Rows(bytes(memoryview(self._bytes)[: written.value]), given.value, kept.value)
 
 

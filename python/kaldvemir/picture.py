@@ -276,12 +276,12 @@ def _depths(net: _Net, face: Sequence[HalfEdge]) -> dict[int, int]:
 
 
 def _ease(places: Sequence[complex]) -> float:
-    """How far crowded nodes are from their nearest others, the size of the drawing being 1."""
+    """How far crowded nodes are from their nearest others, the size of the drawing being 1; rounded, so that symmetric ones are equal."""
     import numpy as np
 
     points = np.array(places)
     nearest = (abs(points[:, None] - points) + np.diag(np.full(len(points), np.inf))).min(0)
-    return float(np.quantile(nearest, 0.05) / points.std())
+    return round(float(np.quantile(nearest, 0.05) / points.std()), 6)
 
 
 def _barycentric(net: _Net, faces: Sequence[Sequence[HalfEdge]], outer: int) -> list[complex]:
@@ -293,19 +293,20 @@ def _barycentric(net: _Net, faces: Sequence[Sequence[HalfEdge]], outer: int) -> 
     import numpy as np
 
     links, rim = _mesh(net, faces, outer)
-    tail, head = np.array(links).T
-    size = max(tail.max(), head.max()) + 1
-    degree = np.bincount(tail, minlength=size) + np.bincount(head, minlength=size)
+    # Each link both ways, in the order of the nodes at which they begin.
+    tail, head = np.array(sorted([*links, *((v, u) for u, v in links)])).T
+    size = tail[-1] + 1
+    begins = np.searchsorted(tail, np.arange(size))
     places = np.zeros(size, complex)
     places[list(rim)] = list(rim.values())
-    free = np.ones(size, bool)
-    free[list(rim)] = False
-    weights = np.ones(len(links))
-    own = head < len(net.turn)
+    free = np.ones(size)
+    free[list(rim)] = 0
+    weights = np.ones(len(tail))
+    own = np.maximum(tail, head) < len(net.turn)
     for precision in [1e-6] * (11 if len(net.turn) < 1000 else 7) + [1e-10]:
-        places = _balanced(places, free, tail, head, weights, precision)
+        places = _balanced(places, free, tail, head, begins, weights, precision)
         length = abs(places[tail] - places[head])
-        reach = (np.bincount(tail, length, size) + np.bincount(head, length, size)) / degree
+        reach = np.add.reduceat(length, begins) / np.diff(begins, append=len(tail))
         width = reach[tail] + reach[head]
         weights *= np.maximum(width / width.mean(), 1e-4) ** 0.5
         weights[own] *= np.maximum(length[own] / length[own].mean(), 1e-4) ** 0.4
@@ -357,31 +358,27 @@ def _room(net: _Net, boundary: Sequence[int]) -> list[float]:
     return [(load[node] / corners[node]) ** 0.75 for node in boundary]
 
 
-def _balanced(places: Any, free: Any, tail: Any, head: Any, weights: Any, precision: float) -> Any:
+def _balanced(places: Any, free: Any, tail: Any, head: Any, begins: Any, weights: Any, precision: float) -> Any:
     """Places at which every free node is the weighted mean of its neighbours: conjugate gradients."""
     import numpy as np
 
-    size = len(places)
-
     def pull(points: Any) -> Any:
-        force = weights * (points[tail] - points[head])
-        x, y = (np.bincount(tail, part, size) - np.bincount(head, part, size) for part in (force.real, force.imag))
-        return np.where(free, x + 1j * y, 0)
+        return free * np.add.reduceat(weights * (points[tail] - points[head]), begins)
 
-    spread = np.bincount(tail, weights, size) + np.bincount(head, weights, size)
-    places = places.copy()
+    spread = np.add.reduceat(weights, begins)
     rest = -pull(places)
-    step = rest / spread
-    power = (rest.conj() * step).real.sum()
-    for _ in range(4 * size):
-        if abs(rest / spread).max() < precision:
+    step = ease = rest / spread
+    power = (rest.conj() * ease).real.sum()
+    for _ in range(4 * len(places)):
+        if abs(ease).max() < precision:
             break
         tension = pull(step)
         length = power / (step.conj() * tension).real.sum()
-        places += length * step
+        places = places + length * step
         rest = rest - length * tension
-        before, power = power, (rest.conj() * (rest / spread)).real.sum()
-        step = rest / spread + power / before * step
+        ease = rest / spread
+        before, power = power, (rest.conj() * ease).real.sum()
+        step = ease + power / before * step
     return places
 
 
@@ -423,8 +420,8 @@ class _Plan(NamedTuple):
 
 def _look(edges: int) -> _Look:
     if edges <= 60:
-        return _Look(48, 4.5, 1.4, 3.4, 11, 2)
-    return _Look(40, 4, 1.2, 3, 9, 2) if edges <= 120 else _Look(20, 2.6, 0.9, 4, 0, 4)
+        return _Look(48, 4.5, 1.4, 3.4, 11, 3)
+    return _Look(40, 4, 1.2, 3, 9, 3) if edges <= 120 else _Look(20, 2.6, 0.9, 4, 0, 4)
 
 
 def _drawing(s0: Sequence[int], s1: Sequence[int], net: _Net, places: Sequence[complex], look: _Look, least: int) -> Curves | None:
@@ -433,8 +430,10 @@ def _drawing(s0: Sequence[int], s1: Sequence[int], net: _Net, places: Sequence[c
     Where they get in each other's way, they are drawn tighter, from tightness `least` on: 0 is smooth, 3 straight from node to node.
     """
     chains = {i: net.chain(i) for i in range(1, len(s0) + 1)}
+    if len(set(places)) < len(places):
+        return None
     plan = _Plan(s0, s1, net.turn, chains, _scaled(chains, places, look), look.digits)
-    if any(plan.places[u] == plan.places[v] for chain in chains.values() for u, v in zip(chain, chain[1:])):
+    if len(set(plan.places)) < len(places):
         return None
     tightness = dict.fromkeys(chains, least)
     while True:
@@ -451,9 +450,9 @@ def _drawing(s0: Sequence[int], s1: Sequence[int], net: _Net, places: Sequence[c
 def _scaled(chains: dict[int, list[int]], places: Sequence[complex], look: _Look) -> list[complex]:
     """The places with the longer side of the picture level, so large that few edges are short, if that is not too large."""
     centre = sum(places) / len(places)
-    moment = sum((place - centre) ** 2 for place in places)
-    # The angle's cut lies where no symmetric picture has it, so that rounding does not turn the picture over.
-    turn = (cmath.phase(moment * cmath.exp(-1j)) + 1) / 2
+    moment, weight = sum((place - centre) ** 2 for place in places), sum(abs(place - centre) ** 2 for place in places)
+    # Rounding must not turn the picture: one without a longer side stays, and the angle's cut lies where no symmetric one has it.
+    turn = (cmath.phase(moment * cmath.exp(-1j)) + 1) / 2 if abs(moment) > 0.001 * weight else 0.0
     places = [(place - centre) * cmath.rect(1, -turn) for place in places]
     lengths = sorted(sum(abs(places[v] - places[u]) for u, v in zip(chain, chain[1:])) for chain in chains.values())
     extent = max(max(part) - min(part) for part in ([place.real for place in places], [place.imag for place in places]))
@@ -753,14 +752,13 @@ def _numbers(curves: Curves, look: _Look) -> dict[int, complex]:
     points: dict[int, complex] = {}
     for i, track in tracks.items():
         half = complex(0.29 * look.figures * len(str(i)), 0.36 * look.figures)
-
-        def merit(part: float, point: complex) -> float:
-            off = taken - point
-            gap = np.hypot(np.maximum(abs(off.real) - half.real, 0), np.maximum(abs(off.imag) - half.imag, 0)).min()
-            return float(min(gap, 0.3 * look.figures) - 4 * abs(part - 0.5))
-
-        choices = [(part, point) for part in (0.5, 0.42, 0.58, 0.34, 0.66, 0.26, 0.74) for point in _beside(track, part, half, look)]
-        points[i] = max(choices, key=lambda choice: merit(*choice))[1]
+        choices: list[tuple[float, complex]] = []
+        for part in (0.5, 0.42, 0.58, 0.34, 0.66, 0.26, 0.74):
+            for point in _beside(track, part, half, look):
+                off = taken - point
+                gap = np.hypot(np.maximum(abs(off.real) - half.real, 0), np.maximum(abs(off.imag) - half.imag, 0)).min()
+                choices.append((round(min(float(gap), 0.3 * look.figures) - 4 * abs(part - 0.5), 6), point))
+        points[i] = max(choices, key=lambda choice: choice[0])[1]
         box = [points[i] + complex(x * half.real, y * half.imag) for x in (-1, 0, 1) for y in (-1, 0, 1)]
         taken = np.concatenate([taken, box])
     return points

@@ -38,12 +38,18 @@ def postgresql_folder() -> str | None:
     return None
 
 
+def memory_folder() -> str | None:
+    """A folder in memory where there is one with room: a database for each test takes long to write to a disk, and to remove."""
+    folder = "/dev/shm"
+    return folder if os.path.isdir(folder) and shutil.disk_usage(folder).free > 2 << 30 else None
+
+
 class Server:
     """A PostgreSQL server in a temporary folder, on a free port of this machine."""
 
     def __init__(self) -> None:
         self.programs = postgresql_folder() or ""
-        self.folder = tempfile.mkdtemp(prefix="kaldvemir-server-")
+        self.folder = tempfile.mkdtemp(prefix="kaldvemir-server-", dir=memory_folder())
         self._numbers = itertools.count(1)
         # The server refuses to run as root; Debian's package has made the user postgres.
         self._user = {"user": "postgres", "group": "postgres"} if os.getuid() == 0 else {}
@@ -241,6 +247,38 @@ def finished(database: str, size: int) -> None:
     assert sorted((share, ticket) for share, _, ticket in by_share) == [(share, ticket) for share, _, ticket in by_share]
     assert tables("SELECT count(*) FROM kaldvemir_ticket") == [(tables.book()["issued"],)]
     tables.close()
+
+
+class Few:
+    """Asks a worker in this process to stop after so many blocks, and cuts its pauses short."""
+
+    def __init__(self, blocks: int) -> None:
+        self.left = blocks
+        self.lines: list[str] = []
+
+    def __bool__(self) -> bool:
+        return self.left <= 0
+
+    def pause(self, seconds: float) -> None:
+        time.sleep(min(seconds, 0.01))
+
+    def say(self, line: str) -> None:
+        self.lines.append(line)
+        self.left -= "at position" in line
+
+
+def asked_at_line(stop: Any, line: int) -> None:
+    """Pauses for a moment. At that line of the interpreter's way through the pause the worker is asked to stop, as by a signal."""
+    lines = itertools.count(1)
+
+    def trace(*_: Any) -> Any:
+        if next(lines) == line:
+            stop._asked(signal.SIGTERM, None)
+        return trace
+
+    sys.settrace(trace)
+    stop.pause(0.01)
+    sys.settrace(None)
 
 
 class Proxy:

@@ -15,13 +15,13 @@ from contextlib import suppress
 from dataclasses import replace
 
 import pytest
-from parts import Sql, finished, listed, opened
+from parts import Few, Sql, asked_at_line, finished, listed, opened
 
 from kaldvemir import Refused
 from kaldvemir.census import Unreachable, connect
 from kaldvemir.census.audit import audit
 from kaldvemir.census.session import Session
-from kaldvemir.census.worker import Worker
+from kaldvemir.census.worker import Stop, Worker
 
 SHORT = ("--lease", "1.0", "--block", "10")
 # So slow that it does not come to the end of a share while a test does something to it.
@@ -195,23 +195,6 @@ def test_workers_go_on_after_their_sessions_were_ended_by_hand(postgresql, worke
     finished(postgresql, 15)
 
 
-class Few:
-    """Asks a worker in this process to stop after so many blocks, and cuts its pauses short."""
-
-    def __init__(self, blocks):
-        self.left, self.lines = blocks, []
-
-    def __bool__(self):
-        return self.left <= 0
-
-    def pause(self, seconds):
-        time.sleep(min(seconds, 0.01))
-
-    def say(self, line):
-        self.lines.append(line)
-        self.left -= "at position" in line
-
-
 def worked(database, blocks, number):
     """What a worker in this process says that records a few blocks of so many rows and gives its ticket back."""
     store, few = connect(database, patience=10.0), Few(blocks)
@@ -310,14 +293,27 @@ def test_workers_that_race_for_every_share_get_each_row_in_once(database, by_han
 
 @pytest.mark.parametrize("workers, number", [(1, signal.SIGINT), (2, signal.SIGINT), (2, signal.SIGTERM)])
 def test_workers_asked_to_stop_give_their_tickets_back(database, by_hand, worker, dice, workers, number):
-    opened(database, 19, 2)
-    held = worker(database, "--workers", str(workers), "--lease", "600", "--block", "50")
+    opened(database, 18, 2)
+    held = worker(database, "--workers", str(workers), "--lease", "600", "--block", "20")
     for each in range(1, workers + 1):
         held.says("claimed with ticket" if workers == 1 else f"worker {each}: .*claimed with ticket")
     time.sleep(dice.uniform(0.0, 0.2))
     ended(held, number)
     assert by_hand.book()["ticket"] == by_hand.book()["expiry"] == [0] * 32
-    finished(database, 19)  # at once: a lease of 600 seconds is not waited for
+    finished(database, 18)  # at once: a lease of 600 seconds is not waited for
+
+
+@pytest.mark.xfail(strict=True, reason="the signal handler takes the lock of an Event that the worker may have just then")
+def test_a_worker_can_be_asked_to_stop_at_any_moment_of_a_pause():
+    for line in itertools.count(1):
+        stop = Stop()
+        pause = threading.Thread(target=asked_at_line, args=(stop, line), daemon=True)
+        pause.start()
+        pause.join(5.0)
+        assert not pause.is_alive(), f"asked to stop at step {line} of a pause, it hangs"
+        if not stop:
+            break  # the pause had been over by then
+    assert line > 1
 
 
 def test_a_lease_is_renewed_by_new_tickets_and_its_share_is_never_free(database, by_hand, worker):

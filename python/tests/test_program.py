@@ -72,7 +72,10 @@ def test_rows_as_csv_json_and_for_gap_hold_the_same_diagrams(database):
     wanted = [(d.position, str(d.word), list(d.s0), list(d.s1), *d.invariants, d.kept) for d in kaldvemir.listing(9)]
     lists = ("s0", "s1")
     from_csv = [
-        tuple([int(e) for e in v.split(",")] if k in lists else v == "K" if k == "mark" else v if k == "word" else int(v) for k, v in r.items())
+        tuple(
+            [int(e) for e in v.split(",")] if k in lists else v == "K" if k == "mark" else v if k == "word" else int(v)
+            for k, v in r.items()
+        )
         for r in csv.DictReader(io.StringIO(program("rows", "--db", database, "--format", "csv").stdout))
     ]
     from_json = [tuple(json.loads(line).values()) for line in program("rows", "--db", database, "--format", "jsonl").stdout.splitlines()]

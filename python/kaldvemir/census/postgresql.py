@@ -97,9 +97,7 @@ class PostgreSQL(Store):
             connection.execute("SET default_transaction_isolation = 'read committed'")
             connection.execute("SET client_min_messages = 'warning'")
             # A turn that has been answered is on the disk: a server that is set to answer earlier is asked not to.
-            connection.execute(
-                "SELECT set_config('synchronous_commit', 'on', false) WHERE current_setting('synchronous_commit') = 'off'"
-            )
+            connection.execute("SELECT set_config('synchronous_commit', 'on', false) WHERE current_setting('synchronous_commit') = 'off'")
             return connection
         except psycopg.OperationalError as error:
             raise Unreachable(f"{self.name} does not answer: {' '.join(str(error).split())}") from error
