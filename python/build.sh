@@ -1,6 +1,6 @@
 #!/usr/bin/env bash
 # Links the proved static library into the shared object that the package kaldvemir calls: python/build.sh
-# The library is proved and built first where it is not there or older than its source, which takes a quarter of an hour.
+# The library is proved and built first where it is not there or older than its source, which takes some twenty minutes.
 set -eu
 cd "$(dirname "$0")/.."
 archive=target/staticlib/libkaldvemir.a
@@ -17,7 +17,7 @@ need() {
 need cc "install a C compiler (Debian: apt-get install gcc libc6-dev)"
 if [ ! -f "$archive" ] || [ -n "$(find crates.txt crates -newer "$archive" \( -name crates.txt -o -name '*.rt' \) -print -quit)" ]; then
     need rt "the Rattle toolchain has to be installed (docs/TOOLCHAIN.md)"
-    echo "proving and building the library, a line a crate: a quarter of an hour the first time" >&2
+    echo "proving and building the library, a line a crate: some twenty minutes the first time" >&2
     rt staticlib kaldvemir 2>&1 | grep --line-buffered '^rt: ' >&2 || true
     [ -f "$archive" ] || { echo "python/build.sh: the library was not built: run rt staticlib kaldvemir to see why" >&2; exit 1; }
 fi

@@ -42,7 +42,8 @@ STEPS = 8
 def svg(s0: Sequence[int], s1: Sequence[int], root: int = 1, *, planar: bool) -> str:
     """The picture of the diagram with black list s0 and white list s1: a whole SVG document.
 
-    `planar` says that its genus is 0: then no two edges cross. The same diagram gives the same text.
+    `planar` says that its genus is 0: then no two edges cross. The same diagram gives the same text. It may have up to 1,024 edges; above
+    120 their numbers are left out.
     """
     look = _look(len(s0))
     choices: list[list[int]] = [[]] if planar else _cuts(s0, s1)
@@ -419,6 +420,7 @@ class _Plan(NamedTuple):
 
 
 def _look(edges: int) -> _Look:
+    """The look of a picture of so many edges."""
     if edges <= 60:
         return _Look(48, 4.5, 1.4, 3.4, 11, 3)
     return _Look(40, 4, 1.2, 3, 9, 3) if edges <= 120 else _Look(20, 2.6, 0.9, 4, 0, 4)
@@ -466,6 +468,7 @@ def _rounded(point: complex, digits: int) -> complex:
 
 
 def _unit(vector: complex) -> complex:
+    """The direction of a vector, as a vector of length 1."""
     return vector / abs(vector)
 
 
@@ -605,8 +608,9 @@ def _sprung(s0: Sequence[int], s1: Sequence[int], look: _Look) -> Curves:
 
 
 def _stars(s0: Sequence[int], s1: Sequence[int], places: dict[int, complex]) -> tuple[float, dict[int, complex]]:
-    """Evenly spread directions at each black vertex of three edges, counterclockwise in the order of s0 and as near as can be to the straight
-    ones; and how near they are in all.
+    """Evenly spread directions at each black vertex of three edges, in the order of s0 and as near to the straight ones as can be.
+
+    Before them, how near they are in all.
     """
     fit = 0.0
     ways: dict[int, complex] = {}

@@ -303,7 +303,6 @@ def test_workers_asked_to_stop_give_their_tickets_back(database, by_hand, worker
     finished(database, 18)  # at once: a lease of 600 seconds is not waited for
 
 
-@pytest.mark.xfail(strict=True, reason="the signal handler takes the lock of an Event that the worker may have just then")
 def test_a_worker_can_be_asked_to_stop_at_any_moment_of_a_pause():
     for line in itertools.count(1):
         stop = Stop()

@@ -116,6 +116,10 @@ def genus(diagram: Diagram) -> int:
     return t // 12
 
 
+def name(diagram: Diagram) -> str:
+    return f"size {len(diagram[0])} genus {genus(diagram)}"
+
+
 SMALL = [diagram for n in range(1, 7) for diagram in rooted(n)]
 LARGER = [any_genus(n, n % 2 + e2, n % 3 + e3, seed) for n, e2, e3, seed in ((12, 0, 0, 1), (12, 2, 3, 2), (24, 0, 0, 3), (24, 2, 0, 4))]
 LARGER += [any_genus(n, n % 2 + e2, n % 3 + e3, seed) for n, e2, e3, seed in ((24, 4, 3, 5), (50, 0, 0, 6), (50, 4, 3, 7))]
@@ -232,17 +236,17 @@ def drawn(diagram: Diagram, root: int = 1) -> str:
 def test_the_generator_finds_the_known_numbers():
     """The numbers of subgroups of these indices."""
     assert [len(rooted(n)) for n in range(1, 7)] == [1, 1, 4, 8, 5, 22]
-    assert {genus(diagram) for diagram in LARGER} >= {0, 1, 2, 3} or {genus(diagram) for diagram in LARGER} >= {1, 2}
+    assert {genus(diagram) for diagram in LARGER} >= {1, 2, 4}
     assert max(len(s0) for s0, _ in PLANE) >= 45
 
 
-@pytest.mark.parametrize("diagram", SMALL + LARGER + PLANE, ids=lambda diagram: f"{len(diagram[0])}-{genus(diagram)}")
+@pytest.mark.parametrize("diagram", SMALL + LARGER + PLANE, ids=name)
 def test_edges_leave_black_vertices_in_order_and_cross_only_off_the_plane(diagram):
     seen = check(diagram, drawn(diagram))
     assert genus(diagram) > 0 or crossings(seen) == 0
 
 
-@pytest.mark.parametrize("diagram", [d for d in SMALL if genus(d)] + LARGER, ids=lambda diagram: f"{len(diagram[0])}-{genus(diagram)}")
+@pytest.mark.parametrize("diagram", [d for d in SMALL if genus(d)] + LARGER, ids=name)
 def test_crossings_are_said_to_be_no_vertices(diagram):
     seen = read(drawn(diagram))
     words = "".join(seen.document.find(SVG + "desc").itertext())
@@ -250,7 +254,7 @@ def test_crossings_are_said_to_be_no_vertices(diagram):
     assert genus(diagram) == 0 or seen.document.findall(f".//{SVG}text[@class='caption']")
 
 
-@pytest.mark.parametrize("diagram", [d for d in SMALL + LARGER + PLANE if max(map(len, cycles(d[0]))) == 3][::5], ids=str)
+@pytest.mark.parametrize("diagram", [d for d in SMALL + LARGER + PLANE if max(map(len, cycles(d[0]))) == 3][::5], ids=name)
 def test_mirror_images_are_told_apart(diagram):
     s0, s1 = diagram
     mirrored = [s0[s0[i - 1] - 1] for i in range(1, len(s0) + 1)]
@@ -276,7 +280,7 @@ def test_crossings_are_found_where_there_are_some():
     assert crossings(seen._replace(curves=moved))
 
 
-@pytest.mark.parametrize("diagram", [SMALL[0], SMALL[1], SMALL[2], *SMALL[4:41:9], LARGER[2], PLANE[4]], ids=str)
+@pytest.mark.parametrize("diagram", [SMALL[0], SMALL[1], SMALL[2], *SMALL[4:41:9], LARGER[2], PLANE[4]], ids=name)
 def test_the_root_is_marked(diagram):
     for root in {1, len(diagram[0])}:
         document = read(drawn(diagram, root)).document
@@ -290,7 +294,7 @@ def test_the_root_is_marked(diagram):
         assert ".edge.root { stroke: #" in document.find(SVG + "style").text
 
 
-@pytest.mark.parametrize("diagram", [*SMALL[::8], *LARGER[2:6], *PLANE[3:6]], ids=lambda diagram: f"{len(diagram[0])}-{genus(diagram)}")
+@pytest.mark.parametrize("diagram", [*SMALL[::8], *LARGER[2:6], *PLANE[3:6]], ids=name)
 def test_the_document_is_whole(diagram):
     text = drawn(diagram)
     seen = read(text)
@@ -308,22 +312,37 @@ def test_the_document_is_whole(diagram):
 
 
 def test_the_same_diagram_gives_the_same_bytes():
-    diagrams = [SMALL[-1], LARGER[1], LARGER[4], PLANE[3]]
+    diagrams = [SMALL[-1], LARGER[1], PLANE[2]]
     again = [picture.svg(*diagram, planar=genus(diagram) == 0) for diagram in diagrams]
     assert again == [drawn(diagram) for diagram in diagrams]
-    call = "import sys; from kaldvemir import picture; sys.stdout.write(picture.svg({0!r}, {1!r}, planar=False))".format(*LARGER[4])
+    call = "import sys; from kaldvemir import picture; sys.stdout.write(picture.svg({0!r}, {1!r}, planar=False))".format(*LARGER[0])
     folder = str(Path(picture.__file__).parents[1])
     for seed in ("1", "2"):
         environment = {**os.environ, "PYTHONHASHSEED": seed, "PYTHONPATH": folder}
         result = subprocess.run([sys.executable, "-c", call], env=environment, capture_output=True, check=True)
-        assert result.stdout.decode("utf-8") == picture.svg(*LARGER[4], planar=False)
+        assert result.stdout.decode("utf-8") == picture.svg(*LARGER[0], planar=False)
 
 
-@pytest.mark.parametrize("diagram", [*SMALL[::6], *LARGER[:4], *PLANE[:6]], ids=lambda diagram: f"{len(diagram[0])}-{genus(diagram)}")
+@pytest.mark.parametrize("diagram", [*SMALL[::6], *LARGER[:4], *PLANE[:6]], ids=name)
 def test_the_library_places_the_nodes_where_relaxing_fails(diagram, monkeypatch):
     monkeypatch.setattr(picture, "_relaxed", lambda net: [0j] * len(net.turn))
     seen = check(diagram, picture.svg(*diagram, planar=genus(diagram) == 0))
     assert genus(diagram) > 0 or crossings(seen) == 0
+
+
+@pytest.mark.parametrize("diagram", [*SMALL[3::6], *LARGER[:4], *PLANE[:6]], ids=name)
+def test_curves_that_get_in_each_others_way_are_drawn_tighter(diagram, monkeypatch):
+    """Here all edges would leave their black vertices backwards."""
+    heading = picture._heading
+    monkeypatch.setattr(picture, "_heading", lambda plan, i: -heading(plan, i))
+    seen = check(diagram, picture.svg(*diagram, planar=genus(diagram) == 0))
+    assert genus(diagram) > 0 or crossings(seen) == 0
+
+
+@pytest.mark.parametrize("diagram", [*SMALL[::10], LARGER[2], LARGER[5], PLANE[3], PLANE[6]], ids=name)
+def test_relaxing_seldom_fails(diagram, monkeypatch):
+    monkeypatch.setattr(picture, "_grid", lambda net: pytest.fail("the library's places were asked for"))
+    assert picture.svg(*diagram, planar=genus(diagram) == 0) == drawn(diagram)
 
 
 def test_a_diagram_of_the_plane_may_be_drawn_as_any_other():

@@ -8,7 +8,6 @@ been committed by then the book itself tells, since the worker then gives its ti
 from __future__ import annotations
 
 import signal
-import threading
 import time
 from collections.abc import Callable
 from contextlib import suppress
@@ -37,7 +36,6 @@ class Stop:
     worker at once."""
 
     def __init__(self) -> None:
-        self._event = threading.Event()
         self.signal: int | None = None
 
     def listen(self) -> None:
@@ -48,13 +46,15 @@ class Stop:
         if self.signal is not None:
             raise KeyboardInterrupt
         self.signal = number
-        self._event.set()
 
     def __bool__(self) -> bool:
-        return self._event.is_set()
+        return self.signal is not None
 
     def pause(self, seconds: float) -> None:
-        self._event.wait(seconds)
+        """Waits so long, or until asked to stop. In short steps: a signal's handler may take no lock that this could hold just then."""
+        end = time.monotonic() + seconds
+        while not self and (left := end - time.monotonic()) > 0:
+            time.sleep(min(left, 0.05))
 
 
 class Worker:
