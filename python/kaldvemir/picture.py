@@ -35,8 +35,9 @@ Curves = dict[int, list[Piece]]
 MOST_BRIDGES = 20
 """With more of them a plane net would show little."""
 
-STEPS = 8
-"""Straight steps by which a piece of a curve is followed where curves are compared."""
+STEPS = 9
+"""Straight steps by which a piece of a curve is followed where curves are compared. They end at no simple fraction of it: there
+symmetric curves may cross, and to meet where steps end is not taken for a crossing."""
 
 
 def svg(s0: Sequence[int], s1: Sequence[int], root: int = 1, *, planar: bool) -> str:
@@ -553,7 +554,7 @@ def _steps(pieces: Sequence[Piece]) -> Any:
     """For each piece the points by which it is followed, from its start to its end."""
     import numpy as np
 
-    t = np.linspace(0, 1, STEPS + 1)
+    t = np.array([0, *(np.arange(1, STEPS) - 0.5) / (STEPS - 1), 1])
     weights = np.array([(1 - t) ** 3, 3 * t * (1 - t) ** 2, 3 * t**2 * (1 - t), t**3])
     return (np.array(pieces)[:, :, None] * weights).sum(1)
 

@@ -263,8 +263,17 @@ def at_the_gate(database, tables, workers):
     """How many workers have got as far as the lock."""
     if database.startswith("postgresql:"):
         return tables("SELECT count(*) FROM pg_locks WHERE NOT granted")[0][0]
-    folders = [f"/proc/{each.process.pid}/fd" for each in workers]
-    return sum(database in (os.path.realpath(f"{folder}/{name}") for name in os.listdir(folder)) for folder in folders)
+    return sum(has_open(each.process.pid, database) for each in workers)
+
+
+def has_open(process, path):
+    """Whether a process has a file open. What it closes while this looks is passed over."""
+    folder = f"/proc/{process}/fd"
+    for name in os.listdir(folder):
+        with suppress(OSError):
+            if os.readlink(f"{folder}/{name}") == path:
+                return True
+    return False
 
 
 @pytest.mark.parametrize("size, number", [(6, 2), (13, 8)])
