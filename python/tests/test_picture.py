@@ -254,7 +254,7 @@ def test_crossings_are_said_to_be_no_vertices(diagram):
     assert genus(diagram) == 0 or seen.document.findall(f".//{SVG}text[@class='caption']")
 
 
-@pytest.mark.parametrize("diagram", [d for d in SMALL + LARGER + PLANE if max(map(len, cycles(d[0]))) == 3][::5], ids=name)
+@pytest.mark.parametrize("diagram", [d for d in SMALL[::4] + LARGER[:3] + PLANE[:4] if max(map(len, cycles(d[0]))) == 3], ids=name)
 def test_mirror_images_are_told_apart(diagram):
     s0, s1 = diagram
     mirrored = [s0[s0[i - 1] - 1] for i in range(1, len(s0) + 1)]
@@ -339,7 +339,7 @@ def test_curves_that_get_in_each_others_way_are_drawn_tighter(diagram, monkeypat
     assert genus(diagram) > 0 or crossings(seen) == 0
 
 
-@pytest.mark.parametrize("diagram", [*SMALL[::10], LARGER[2], LARGER[5], PLANE[3], PLANE[6]], ids=name)
+@pytest.mark.parametrize("diagram", [*SMALL[::10], LARGER[2], PLANE[3]], ids=name)
 def test_relaxing_seldom_fails(diagram, monkeypatch):
     monkeypatch.setattr(picture, "_grid", lambda net: pytest.fail("the library's places were asked for"))
     assert picture.svg(*diagram, planar=genus(diagram) == 0) == drawn(diagram)
