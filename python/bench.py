@@ -138,8 +138,7 @@ def main() -> None:
     table, server = Table(), Server()
     try:
         server.start()
-        connect_first = lambda: server.new_database()  # noqa: E731
-        measured(table, "PostgreSQL", connect_first, copied, options.size, options.repeats)
+        measured(table, "PostgreSQL", server.new_database, copied, options.size, options.repeats)
         with tempfile.TemporaryDirectory() as folder:
             files = (f"{folder}/{k}.db" for k in range(1000))
             measured(table, "SQLite", lambda: next(files), inserted, options.size, options.repeats)

@@ -325,7 +325,7 @@ def _mesh(net: _Net, faces: Sequence[Sequence[HalfEdge]], outer: int) -> tuple[l
         ring = [u for u, _ in face]
         room = _room(net, ring) if number == outer else [1.0] * len(ring)
         # The first ring is woven to the face, then come some as long, then each is half as long as the one before.
-        plain, least = (4, 16) if number == outer else (1, 12)
+        plain, least = (4 if len(net.turn) < 1000 else 2, 16) if number == outer else (1, 12)
         layer = 0
         while layer < plain or len(ring) > least:
             pace = 1 if layer < plain else 2

@@ -11,7 +11,7 @@ import pytest
 
 sys.path.insert(0, str(Path(__file__).parents[1]))
 
-from parts import Proxy, Server, Sql, WorkerProcess, postgresql_folder  # noqa: E402
+from parts import Proxy, Server, Sql, WorkerProcess, memory_folder, postgresql_folder  # noqa: E402
 
 from kaldvemir.census import connect  # noqa: E402
 from kaldvemir.census.session import Session  # noqa: E402
@@ -22,7 +22,7 @@ def server(tmp_path_factory):
     """A PostgreSQL server in a temporary folder, ended with the tests."""
     if postgresql_folder() is None:
         pytest.fail("no PostgreSQL server is installed (Debian: apt-get install postgresql)")
-    server = Server()
+    server = Server(memory_folder())
     try:
         server.start()
         yield server

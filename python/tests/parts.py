@@ -47,9 +47,9 @@ def memory_folder() -> str | None:
 class Server:
     """A PostgreSQL server in a temporary folder, on a free port of this machine."""
 
-    def __init__(self) -> None:
+    def __init__(self, where: str | None = None) -> None:
         self.programs = postgresql_folder() or ""
-        self.folder = tempfile.mkdtemp(prefix="kaldvemir-server-", dir=memory_folder())
+        self.folder = tempfile.mkdtemp(prefix="kaldvemir-server-", dir=where)
         self._numbers = itertools.count(1)
         # The server refuses to run as root; Debian's package has made the user postgres.
         self._user = {"user": "postgres", "group": "postgres"} if os.getuid() == 0 else {}
