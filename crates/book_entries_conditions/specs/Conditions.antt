@@ -2,21 +2,14 @@
 --
 --   placed before last p t  of a share that holds the positions after `before` up to `last`: its next position p is one of them or just past
 --                           them, and past them its ticket t is 0
---   once-before l i         the entry at place i of l, from 0, is 0 or stands at no place before
 --   timely t e latest       without a ticket t the expiry e is 0, and it lies at most 65,535 beyond the latest tick
 use mathlib.Core.Bool.{Bool, true, false, cond}
-use mathlib.Core.List.{List}
 use Prim.Native.Nat.{ℕ, suc, _+_}
 use lib.Dec.{eqb, leb, ltb}
-use Rattle.lists.specs.Lists.{at}
-use Rattle.lists.specs.Ranges.{every}
 use Rattle.book_connectives.specs.Connectives.{both, either}
 
 unfoldable pub placed : ℕ → ℕ → ℕ → ℕ → Bool
 placed before last p t = both (both (leb (suc before) p) (leb p (suc last))) (cond (ltb last p) (eqb t 0) true)
-
-unfoldable pub once-before : List ℕ → ℕ → Bool
-once-before l i = either (eqb (at l (suc i)) 0) (every i (λ m. cond (eqb (at l m) (at l (suc i))) false true))
 
 unfoldable pub timely : ℕ → ℕ → ℕ → Bool
 timely t e latest = both (either (eqb e 0) (cond (eqb t 0) false true)) (leb e (latest + 65535))

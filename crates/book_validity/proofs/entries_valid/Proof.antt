@@ -1,122 +1,67 @@
--- `entries_valid` meets its contract: the loop's invariant: the entries before place i are valid, and the ends of the shares so far are those of a division of j times the count by k.
+-- `entries_valid` meets its contract: the parts of the definition, put together; tickets that are apart each stand once.
 use borrow.Author.Needs.{needs}
-use mathlib.Core.Path.{_≡_, refl, sym, _∙_}
-use mathlib.Core.Bool.{true, false}
-use Prim.Native.Nat.{ℕ, suc, _+_, _*_, _-_, _≤_, _<_}
-use native.Mathlib.Numerals.{add-one}
-use native.Mathlib.Omega.{arith}
-use denote.Ref.{now}
 use borrow.Author.Tests.{not-true, not-false}
-use Rattle.lists.specs.Ranges.{every}
+use mathlib.Core.Path.{sym, ap₂, _∙_}
+use denote.Ref.{now}
 use Rattle.book.specs.declared.types.Book.{Book}
-use Rattle.book.specs.Valid.{entries-valid}
-use Rattle.book_entries.specs.Entries.{bookWith, entry-valid}
-use Rattle.book.proofs.Entries.{every-false}
-use Rattle.book_validity.proofs.Ends.{ended, end-small, end-more, shared, part-small, step-small}
-use Rattle.book.specs.Shares.{last}
+use Rattle.book_connectives.specs.Connectives.{both}
+use Rattle.book_entries.specs.Entries.{bookWith}
+use Rattle.book_validity.proofs.Parts.{both-truly, shares-failed, shares-passed}
 use Rattle.book_validity.proofs.entries_valid.Statement.{statement}
 use Rattle.book_validity.proofs.entries_valid.Tie as tie
 use Rattle.book_validity.proofs.entries_valid.Reads as reads
 use Rattle.book_validity.proofs.entries_valid.Lts as lts
-use Rattle.book_entries.proofs.entry_valid.Reads as entry-valid-reads
-use Rattle.book_shares.proofs.onward.Reads as onward-reads
+use Rattle.book_connectives.proofs.both.Reads as both-reads
+use Rattle.book_entries.proofs.rest_unused.Reads as rest-unused-reads
+use Rattle.book_tickets.proofs.tickets_apart.Reads as tickets-apart-reads
+use Rattle.book_tickets.proofs.tickets_once.Reads as tickets-once-reads
+use Rattle.book_validity.proofs.shares_valid.Reads as shares-valid-reads
 
-entries-false : (b : Book) (i : ℕ) → i < 32 → entry-valid b (suc i) ≡ false → entries-valid b ≡ false
-unfolding entries-valid
-entries-false b i h e = every-false 32 (entry-valid b) (suc i) (omega arith) e
-
-entries-true : (b : Book) (i : ℕ) → 32 ≤ i → i ≤ 32 → every i (entry-valid b) ≡ true → entries-valid b ≡ true
-unfolding entries-valid
-entries-true b i l u h = let e : i ≡ 32 = omega arith in rw e at h
-
--- the shares so far are valid, and end where they should
-abbrev Inv-loop : tie.InvT-loop
-Inv-loop h total next ticket expiry k step part before₀ rest₀ i₀ before rest i = (i ≤ 32) × (every i (entry-valid (bookWith h next ticket expiry)) ≡ true) × (rest < k) × (before * k + rest ≡ i * total)
-
-abbrev μ-loop : tie.MeasureT-loop
-μ-loop h total next ticket expiry k step part before₀ rest₀ i₀ before rest i = 32 - i
+shares-valid-requires : tie.Need-shares-valid-requires
+shares-valid-requires c κs = search needs
 
 -- the book that is looked at
-abbrev lent : tie.Start Inv-loop μ-loop → Book
+abbrev lent : tie.Start → Book
 lent c = bookWith (c .args .h) (now (c .args .next)) (now (c .args .ticket)) (now (c .args .expiry))
 
-abbrev start : tie.After-onward Inv-loop μ-loop → tie.Start Inv-loop μ-loop
-start c = c .before .before .before .before .before .before
-
-div-step : tie.Need-div-step Inv-loop μ-loop
-div-step c = search needs
-
-rem-part : tie.Need-rem-part Inv-loop μ-loop
-rem-part c = search needs
-
-loop-holds : tie.Need-loop-holds Inv-loop μ-loop
-loop-holds c = (omega arith, refl, c .before .before .before .pre .2 .0, omega arith)
-
-onward-requires : tie.Need-onward-requires Inv-loop μ-loop
-onward-requires c κs =
-    let a = c .before .before .before .before .before in
-    let v = c .before .loop .inv in
-    (v .2, part-small (a .args .total) (a .args .h .shares) (a .pre .2 .0), a .pre .2 .1, end-small (a .args .h .shares) (c .before .loop .i) (c .before .loop .before) (c .before .loop .rest) (a .args .total) (v .3) (a .pre .2 .0) (a .pre .1) (v .0), step-small (a .args .total) (a .args .h .shares) (a .pre .1))
-
--- where the share ends that is looked at
-further : (c : tie.After-onward Inv-loop μ-loop) → c .onward .result .last * (start c .args .h .shares) + c .onward .result .rest ≡ (c .before .before .loop .i + 1) * (start c .args .total)
-further c =
-    end-more (start c .args .h .shares) (c .before .before .loop .i) (c .before .before .loop .before) (c .before .before .loop .rest) (c .onward .result .last) (c .onward .result .rest) _ _ (start c .args .total) (c .onward .ensures .1) (c .before .before .loop .inv .3) (shared (start c .args .total) (start c .args .h .shares))
-
-starts : (c : tie.After-onward Inv-loop μ-loop) → c .before .before .loop .before ≡ last (start c .args .h .size) (start c .args .h .shares) (c .before .before .loop .i)
-starts c = ended _ _ _ _ (c .before .before .loop .rest) (start c .args .total) (start c .pre .0) (c .before .before .loop .inv .3) (c .before .before .loop .inv .2)
-
-stops : (c : tie.After-onward Inv-loop μ-loop) → c .onward .result .last ≡ last (start c .args .h .size) (start c .args .h .shares) (c .before .before .loop .i + 1)
-stops c = ended _ _ _ _ (c .onward .result .rest) (start c .args .total) (start c .pre .0) (further c) (c .onward .ensures .0)
-
-entry-valid-requires : tie.Need-entry-valid-requires Inv-loop μ-loop
-entry-valid-requires c κs =
-    let a = start c in
-    let v = c .before .before .loop .inv in
-    let l = c .before .loop-test .taken in (
-      end-small (a .args .h .shares) (c .before .before .loop .i) (c .before .before .loop .before) (c .before .before .loop .rest) (a .args .total) (v .3) (a .pre .2 .0) (a .pre .1) (v .0),
-      end-small (a .args .h .shares) (c .before .before .loop .i + 1) (c .onward .result .last) (c .onward .result .rest) (a .args .total) (further c) (a .pre .2 .0) (a .pre .1) (omega (arith, l)),
-      l,
-      a .pre .3,
-      a .pre .4,
-    )
-
-returns : tie.Need-returns Inv-loop μ-loop
+returns : tie.Need-returns
 returns c =
-    let o = c .before .before in
-    sym (entries-false (lent (start o)) (o .before .before .loop .i) (o .before .loop-test .taken) (sym (c .before .entry-valid .ensures (start o .args .h .size) (starts o) (stops o)) ∙ not-true _ (c .if1 .taken)))
+    let s = c .before .before .before .before .before in
+    sym (shares-failed (lent s) (s .pre .2 .1) (sym (c .before .shares-valid .ensures) ∙ not-true _ (c .if1 .taken)))
 
-add-i : tie.Need-add-i Inv-loop μ-loop
-add-i c = omega arith
+rest-unused-requires : tie.Need-rest-unused-requires
+rest-unused-requires c κs = search needs
 
-loop-less : tie.Need-loop-less Inv-loop μ-loop
-loop-less c = omega arith
+tickets-apart-requires : tie.Need-tickets-apart-requires
+tickets-apart-requires c κs = search needs
 
-loop-again : tie.Need-loop-again Inv-loop μ-loop
-loop-again c =
-    let o = c .before .before in (
-      omega (arith, o .before .loop-test .taken),
-      rw (add-one, sym (c .before .entry-valid .ensures (start o .args .h .size) (starts o) (stops o)) ∙ not-false _ (c .if1 .left)) (o .before .before .loop .inv .1),
-      o .onward .ensures .0,
-      further o,
-    )
+returns-2 : tie.Need-returns-2
+returns-2 c =
+    let e = c .before .before .before in
+    let s = e .before .before .before .before .before in
+    rw (shares-passed (lent s) (s .pre .2 .1) (sym (e .before .shares-valid .ensures) ∙ not-false _ (e .if1 .left)), c .before .tickets-apart .ensures (c .if2 .taken)) (c .before .before .rest-unused .ensures ∙ sym (both-truly _))
 
-returns-2 : tie.Need-returns-2 Inv-loop μ-loop
-returns-2 c = sym (entries-true (lent (c .before .before .before .before .before)) (c .before .loop .i) (c .loop-test .left) (c .before .loop .inv .0) (c .before .loop .inv .1))
+tickets-once-requires : tie.Need-tickets-once-requires
+tickets-once-requires c κs = search needs
+
+both-requires : tie.Need-both-requires
+both-requires c κs = search needs
+
+returns-3 : tie.Need-returns-3
+returns-3 c =
+    let e = c .before .before .before .before .before in
+    let s = e .before .before .before .before .before in
+    c .both .ensures ∙ ap₂ both (c .before .before .before .before .rest-unused .ensures) (c .before .tickets-once .ensures) ∙ sym (shares-passed (lent s) (s .pre .2 .1) (sym (e .before .shares-valid .ensures) ∙ not-false _ (e .if1 .left)))
 
 pub entries-valid-spec : {M : Type 1} → statement M
 entries-valid-spec =
     tie.close
     (tie.spec
-    Inv-loop
-    μ-loop
-    div-step
-    rem-part
-    loop-holds
-    onward-requires
-    entry-valid-requires
+    shares-valid-requires
     returns
-    add-i
-    loop-less
-    loop-again
-    returns-2)
+    rest-unused-requires
+    tickets-apart-requires
+    returns-2
+    tickets-once-requires
+    both-requires
+    returns-3)

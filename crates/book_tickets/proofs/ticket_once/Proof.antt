@@ -11,9 +11,9 @@ use denote.Ref.{now}
 use Rattle.lists.specs.Lists.{at}
 use Rattle.lists.specs.Ranges.{every}
 use Rattle.book_connectives.specs.Connectives.{either}
-use Rattle.book_entries_conditions.specs.Conditions.{once-before}
-use Rattle.book_entries_conditions.proofs.ticket_once.Statement.{statement}
-use Rattle.book_entries_conditions.proofs.ticket_once.Tie as tie
+use Rattle.book_tickets.specs.Tickets.{stands-once}
+use Rattle.book_tickets.proofs.ticket_once.Statement.{statement}
+use Rattle.book_tickets.proofs.ticket_once.Tie as tie
 
 -- the ticket at place m - 1 is another than the one at place i
 abbrev others : List ℕ → ℕ → ℕ → Bool
@@ -28,9 +28,9 @@ one-more false false = refl
 more : (l : List ℕ) (i m : ℕ) (again : Bool) → every m (others l i) ≡ cond again false true → every (m + 1) (others l i) ≡ cond (either again (eqb (at l (suc m)) (at l (suc i)))) false true
 more l i m again h = rw (add-one, h) (one-more (eqb (at l (suc m)) (at l (suc i))) again)
 
-all : (l : List ℕ) (i m : ℕ) (again : Bool) → i ≤ m → m ≤ i → every m (others l i) ≡ cond again false true → either (eqb (at l (suc i)) 0) (cond again false true) ≡ once-before l i
-unfolding once-before
-all l i m again a b h = let e : m ≡ i = omega arith in ap (either (eqb (at l (suc i)) 0)) (sym (rw e at h))
+all : (l : List ℕ) (i m : ℕ) (again : Bool) → i ≤ m → m ≤ i → every m (others l i) ≡ cond again false true → either (eqb (at l (suc i)) 0) (cond again false true) ≡ stands-once l (suc i)
+unfolding stands-once
+all l i m again a b h = let e : m ≡ suc i - 1 = omega arith in ap (either (eqb (at l (suc i)) 0)) (sym (rw e at h))
 
 abbrev Inv-loop : tie.InvT-loop
 Inv-loop ticket i t again₀ m₀ again m = (m ≤ i) × (every m (others ticket i) ≡ cond again false true)
