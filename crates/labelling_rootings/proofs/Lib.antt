@@ -1,1 +1,3 @@
+pub mod FirstItems
+pub mod Moving
 pub mod Tried

@@ -7,14 +7,17 @@ use Prim.Native.Nat.{ℕ, _+_, _≤_, _<_}
 use native.Mathlib.Omega.{arith}
 use native.Mathlib.Numerals.{add-one}
 use lib.ListN.{length}
+use Rattle.lists.specs.Lists.{at}
 use Rattle.lists.specs.Ranges.{OneTo, card}
 use Rattle.lists.proofs.Tests.{same?}
 use Rattle.words.specs.Order.{Before, precedes, same}
 use Rattle.words.proofs.Order.{precedes-true, precedes-false, same-true, same-self}
 use Rattle.labelling.specs.Labelling.{wordOf}
+use Rattle.labelling.specs.Rootings.{Kept}
 use Rattle.labelling_code.specs.Scratch.{Ready}
 use Rattle.labelling_code.specs.Traced.{Traced}
 use Rattle.labelling_rootings.specs.Among.{NoneBefore, SomeRooting}
+use Rattle.labelling_rootings.proofs.FirstItems.{moved-kept}
 
 -- x of the n rootings are tried; the arrays are fit for the next, and the list of the trace keeps its length
 pub record Tried (s0 : List ℕ) (n : ℕ) (la od nx pv cand₀ cand : List ℕ) (x : ℕ) : Type 0 where
@@ -40,6 +43,11 @@ module _ (s0 s1 own : List ℕ) (x : ℕ) where
   pub none-fails : x < length s0 → precedes (wordOf s0 s1 (x + 1)) own ≡ true → ¬ NoneBefore s0 s1 own
   unfolding NoneBefore
   none-fails h e k = k (x + 1) (omega arith) (precedes-true (wordOf s0 s1 (x + 1)) own e)
+
+-- where the root is moved, none comes before its word only if every edge is moved
+pub none-moved : (s0 s1 : List ℕ) (root : ℕ) (own : List ℕ) → wordOf s0 s1 root ≡ own → at s0 root ≢ root → NoneBefore s0 s1 own → (x : ℕ) → OneTo (length s0) x → at s0 x ≢ x
+unfolding NoneBefore Kept
+none-moved s0 s1 root own w n k = moved-kept s0 s1 root n (rw w k)
 
 module _ (s0 s1 own c : List ℕ) (x : ℕ) (t : Traced s0 s1 (x + 1) own c) where
   -- ---- some rooting with this word
