@@ -65,11 +65,11 @@ abbrev pub stateAfterItems : ℕ → ℕ → List ℕ → StackState
 stateAfterItems h f [] = stackState h f
 stateAfterItems h f (x ∷ w) = stateAfterItems (stateAfterItem h f x .height) (stateAfterItem h f x .free) w
 
-stateAfterItems-one : (w : List ℕ) (h f x : ℕ) → stateAfterItems h f (w ++ (x ∷ [])) ≡ stateAfterItem (stateAfterItems h f w .height) (stateAfterItems h f w .free) x
+pub stateAfterItems-one : (w : List ℕ) (h f x : ℕ) → stateAfterItems h f (w ++ (x ∷ [])) ≡ stateAfterItem (stateAfterItems h f w .height) (stateAfterItems h f w .free) x
 stateAfterItems-one [] h f x = refl
 stateAfterItems-one (y ∷ w) h f x = stateAfterItems-one w (stateAfterItem h f y .height) (stateAfterItem h f y .free) x
 
-stateAfterItems-small : (w : List ℕ) (h f : ℕ) → h + f ≤ 50 → stateAfterItems h f w .height + stateAfterItems h f w .free ≤ 50
+pub stateAfterItems-small : (w : List ℕ) (h f : ℕ) → h + f ≤ 50 → stateAfterItems h f w .height + stateAfterItems h f w .free ≤ 50
 stateAfterItems-small [] h f s = s
 stateAfterItems-small (x ∷ w) h f s = stateAfterItems-small w (stateAfterItem h f x .height) (stateAfterItem h f x .free) (after-small 50 h f x (omega arith) s)
 
@@ -79,7 +79,7 @@ stateAfterItems-end [] zero (suc f) a = absurd a
 stateAfterItems-end [] (suc h) f a = absurd a
 stateAfterItems-end (x ∷ w) h f a = stateAfterItems-end w (stateAfterItem h f x .height) (stateAfterItem h f x .free) (fits-after h f x w a)
 
-fits-ends : (h f : ℕ) (w : List ℕ) → Fits h f w → canEnd h f ≡ true
+pub fits-ends : (h f : ℕ) (w : List ℕ) → Fits h f w → canEnd h f ≡ true
 fits-ends h f w a = go (canEnd h f) refl
   where
     go : (b : Bool) → canEnd h f ≡ b → b ≡ true
@@ -87,14 +87,22 @@ fits-ends h f w a = go (canEnd h f) refl
     go false e = absurd (dead h f e w a)
 
 -- what follows the rest follows the whole, behind the items before it
-next-behind : (u : List ℕ) (h f : ℕ) (w : List ℕ) (y : ℕ) (v : List ℕ) → nextEnding (stateAfterItems h f u .height) (stateAfterItems h f u .free) w ≡ y ∷ v → nextEnding h f (u ++ w) ≡ u ++ (y ∷ v)
+pub keep-behind : (x : ℕ) (u : List ℕ) (y : ℕ) (v r : List ℕ) → keepOr x (u ++ (y ∷ v)) r ≡ x ∷ (u ++ (y ∷ v))
+keep-behind x [] y v r = refl
+keep-behind x (z ∷ u) y v r = refl
+
+pub next-behind : (u : List ℕ) (h f : ℕ) (w : List ℕ) (y : ℕ) (v : List ℕ) → nextEnding (stateAfterItems h f u .height) (stateAfterItems h f u .free) w ≡ y ∷ v → nextEnding h f (u ++ w) ≡ u ++ (y ∷ v)
 unfolding nextEnding
 next-behind [] h f w y v e = e
-next-behind (x ∷ u) h f w y v e = rw (next-behind u (stateAfterItem h f x .height) (stateAfterItem h f x .free) w y v e) (more u)
-  where
-    more : (u : List ℕ) → keepOr x (u ++ (y ∷ v)) (raisedTo (leastAbove h f x) (stateAfterItem h f (leastAbove h f x))) ≡ x ∷ (u ++ (y ∷ v))
-    more [] = refl
-    more (z ∷ u) = refl
+next-behind (x ∷ u) h f w y v e = rw (next-behind u (stateAfterItem h f x .height) (stateAfterItem h f x .free) w y v e) (keep-behind x u y v _)
+
+-- an item that is read is small
+pub item-low : (h f x : ℕ) (w : List ℕ) → h + f ≤ 50 → Fits h f (x ∷ w) → x ≤ 51
+item-low zero f x w s a = absurd a
+item-low (suc h) f zero w s a = omega arith
+item-low (suc h) f (suc zero) w s a = omega arith
+item-low (suc h) f (suc (suc zero)) w s a = omega arith
+item-low (suc h) f (suc (suc (suc d))) w s a = let i = a .0 in omega arith
 
 -- ---- the way back
 
@@ -126,14 +134,7 @@ module _ (H F : ℕ) (w : List ℕ) (small : H + F ≤ 50) (j h f : ℕ) (k : j 
   back-fits = after-fits (l .height) (l .free) x (drop (suc j) w) (rw (back-read .leads-to) (B .fits))
 
   pub back-item : x ≤ 51
-  back-item = item (l .height) (l .free) x (drop (suc j) w) state-small back-fits
-    where
-      item : (h f x : ℕ) (w : List ℕ) → h + f ≤ 50 → Fits h f (x ∷ w) → x ≤ 51
-      item zero f x w s a = absurd a
-      item (suc h) f zero w s a = omega arith
-      item (suc h) f (suc zero) w s a = omega arith
-      item (suc h) f (suc (suc zero)) w s a = omega arith
-      item (suc h) f (suc (suc (suc d))) w s a = let i = a .0 in omega arith
+  back-item = item-low (l .height) (l .free) x (drop (suc j) w) state-small back-fits
 
   -- what follows the items from j on, by the event that x can be raised to
   next-here : nextEnding (l .height) (l .free) (drop j w) ≡ raisedTo (leastAbove (l .height) (l .free) x) (stateAfterItem (l .height) (l .free) (leastAbove (l .height) (l .free) x))

@@ -11,8 +11,9 @@ use lib.Seq.{length-take-le}
 use Rattle.lists.proofs.Lists.{rest-is}
 use Rattle.words.specs.Shape.{Word}
 use Rattle.words.proofs.Shape.{word-length}
-use Rattle.listing_successor.specs.Successor.{stateAfterFirst, canEnd, leastEnding, raisedTo, keepOr, firstWord, firstAbove, successor}
+use Rattle.listing_successor.specs.Successor.{stateAfterFirst, canEnd, leastEnding, rootRaised, firstWord, successor}
 use Rattle.listing_successor.specs.Reading.{Raises}
+use Rattle.listing_successor.proofs.Backwards.{keep-behind}
 use Rattle.listing_successor.proofs.Follows.{words-follow, cons-not}
 use Rattle.listing_successor.proofs.Forwards.{rest}
 
@@ -46,6 +47,24 @@ unfolding successor
 following-first n [] z = refl
 following-first n (x ∷ w) z = absurd (omega arith)
 
+-- where only the first item can be raised: U becomes T, or the word is the last
+pub root-up : (n x : ℕ) → x ≡ 0 → 3 ≤ n → rootRaised n x ≡ 1 ∷ leastEnding (stateAfterFirst n 1 .height) (stateAfterFirst n 1 .free)
+root-up n x e l = rw e (up n l)
+  where
+    up : (n : ℕ) → 3 ≤ n → rootRaised n 0 ≡ 1 ∷ leastEnding (stateAfterFirst n 1 .height) (stateAfterFirst n 1 .free)
+    up zero l = absurd (omega arith)
+    up (suc zero) l = absurd (omega arith)
+    up (suc (suc zero)) l = absurd (omega arith)
+    up (suc (suc (suc n))) l = refl
+
+pub root-down : (n x : ℕ) → (x ≢ 0) ⊎ (n < 3) → rootRaised n x ≡ []
+root-down n (suc x) k = refl
+root-down n zero (inl k) = absurd (k refl)
+root-down zero zero (inr k) = refl
+root-down (suc zero) zero (inr k) = refl
+root-down (suc (suc zero)) zero (inr k) = refl
+root-down (suc (suc (suc n))) zero (inr k) = absurd (omega arith)
+
 module _ (n : ℕ) where
   -- the state after the first item
   abbrev height : List ℕ → ℕ
@@ -58,11 +77,7 @@ module _ (n : ℕ) where
     pub following-raised : (w : List ℕ) → length w ≢ 0 → event ≢ 0 → Raises (height w) (free w) (rest w) place event h f → successor n w ≡ take (place + 1) w ++ (event ∷ leastEnding h f)
     unfolding successor
     following-raised [] z e R = absurd (z refl)
-    following-raised (x ∷ w) z e R = rw (add-one, (rw rest-is at (R .some e))) (more (take place w))
-      where
-        more : (u : List ℕ) → keepOr x (u ++ (event ∷ leastEnding h f)) (raisedTo (firstAbove n x) (stateAfterFirst n (firstAbove n x))) ≡ x ∷ (u ++ (event ∷ leastEnding h f))
-        more [] = refl
-        more (y ∷ u) = refl
+    following-raised (x ∷ w) z e R = rw (add-one, (rw rest-is at (R .some e))) (keep-behind x (take place w) event (leastEnding h f) _)
 
     pub raised-room : (w : List ℕ) → n ≤ 50 → Word n w → length w ≢ 0 → event ≢ 0 → Raises (height w) (free w) (rest w) place event h f → (place + 1 ≤ length w) × (place + 1 + 1 + length (leastEnding h f) ≤ 51)
     raised-room [] l a z e R = absurd a
@@ -74,27 +89,13 @@ module _ (n : ℕ) where
         (k, omega arith)
 
     module _ (z : event ≡ 0) where
-      onward-root : (w : List ℕ) → length w ≢ 0 → Raises (height w) (free w) (rest w) place event h f → successor n w ≡ raisedTo (firstAbove n (getD w 0 0)) (stateAfterFirst n (firstAbove n (getD w 0 0)))
+      onward-root : (w : List ℕ) → length w ≢ 0 → Raises (height w) (free w) (rest w) place event h f → successor n w ≡ rootRaised n (getD w 0 0)
       unfolding successor
       onward-root [] l R = absurd (l refl)
       onward-root (x ∷ w) l R = rw (rw rest-is at (R .none z))
 
       pub following-rooted : (w : List ℕ) → length w ≢ 0 → Raises (height w) (free w) (rest w) place event h f → getD w 0 0 ≡ 0 → 3 ≤ n → successor n w ≡ 1 ∷ leastEnding (stateAfterFirst n 1 .height) (stateAfterFirst n 1 .free)
-      following-rooted w l R x k = onward-root w l R ∙ rw x (up n k)
-        where
-          up : (n : ℕ) → 3 ≤ n → raisedTo (firstAbove n 0) (stateAfterFirst n (firstAbove n 0)) ≡ 1 ∷ leastEnding (stateAfterFirst n 1 .height) (stateAfterFirst n 1 .free)
-          up zero l = absurd (omega arith)
-          up (suc zero) l = absurd (omega arith)
-          up (suc (suc zero)) l = absurd (omega arith)
-          up (suc (suc (suc n))) l = refl
+      following-rooted w l R x k = onward-root w l R ∙ root-up n (getD w 0 0) x k
 
       pub following-none : (w : List ℕ) → length w ≢ 0 → Raises (height w) (free w) (rest w) place event h f → (getD w 0 0 ≢ 0) ⊎ (n < 3) → successor n w ≡ []
-      following-none w l R k = onward-root w l R ∙ down n (getD w 0 0) k
-        where
-          down : (n x : ℕ) → (x ≢ 0) ⊎ (n < 3) → raisedTo (firstAbove n x) (stateAfterFirst n (firstAbove n x)) ≡ []
-          down n (suc x) k = refl
-          down n zero (inl k) = absurd (k refl)
-          down zero zero (inr k) = refl
-          down (suc zero) zero (inr k) = refl
-          down (suc (suc zero)) zero (inr k) = refl
-          down (suc (suc (suc n))) zero (inr k) = absurd (omega arith)
+      following-none w l R k = onward-root w l R ∙ root-down n (getD w 0 0) k

@@ -45,9 +45,13 @@ abbrev pub firstAbove : ℕ → ℕ → ℕ
 firstAbove n zero = less3 n 0 (λ g. 1)
 firstAbove n (suc x) = 0
 
+-- the least word whose first item is above x; [] where there is none
+abbrev pub rootRaised : ℕ → ℕ → List ℕ
+rootRaised n x = raisedTo (firstAbove n x) (stateAfterFirst n (firstAbove n x))
+
 unfoldable pub successor : ℕ → List ℕ → List ℕ
 successor n [] = firstWord n
-successor n (x ∷ w) = let l = stateAfterFirst n x in keepOr x (nextEnding (l .height) (l .free) w) (raisedTo (firstAbove n x) (stateAfterFirst n (firstAbove n x)))
+successor n (x ∷ w) = let l = stateAfterFirst n x in keepOr x (nextEnding (l .height) (l .free) w) (rootRaised n x)
 
 abbrev pub heldWord : List ℕ → Held
 heldWord w = record { length = length w; items = paddedWord w }

@@ -1,6 +1,6 @@
 // The word that follows a word in dictionary order among the words of its size, and whether a list is a word of a size at all. Both
 // go by the stack's height and the labels left, so that no diagram is made and no table is needed.
-pub use listing_successor_endings::Next;
+use listing_successor_endings::Next;
 use listing_successor_endings::least_word;
 use listing_successor_endings::raise_at;
 use listing_successor_events::can_end;
@@ -128,8 +128,8 @@ fn first_word(n: u16) -> Next
     least_word(n, 1)
 }
 
-// The word that follows a word of n edges, and how far the two agree: to the item that is raised, not at all where the word begins anew.
-pub fn successor(word: &[u16], n: u16) -> Next
+// The word that follows a word of n edges: the first after the empty list, and the empty list after the last.
+fn successor(word: &[u16], n: u16) -> Next
     requires { ⌜ OneTo 50 n × ((now word ≡ []) ⊎ Word n (now word)) ⌝ }
     ensures { λ r. ⌜ SuccessorPromise n (now (word .entry)) r ⌝ }
 {
@@ -152,7 +152,7 @@ pub fn successor(word: &[u16], n: u16) -> Next
     }
 }
 
-// The word that follows a word of n edges: the first after the empty list, and the empty list after the last.
+// The same word, held by itself.
 pub fn successor_word(word: &[u16], n: u16) -> Held
     requires { ⌜ OneTo 50 n × ((now word ≡ []) ⊎ Word n (now word)) ⌝ }
     ensures { λ r. ⌜ r ≡ heldWord (successor n (now (word .entry))) ⌝ }

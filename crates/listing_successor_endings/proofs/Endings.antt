@@ -1,6 +1,6 @@
 -- `leastEnding` is the least way to end: the least event that leads on, then the least way to end after it.
 use mathlib.Core.Path.{_≡_, refl, sym}
-use mathlib.Core.Logic.{inl, inr}
+use mathlib.Core.Logic.{_≢_, inl, inr}
 use mathlib.Core.Bool.{true, false, true≢false}
 use mathlib.Core.List.{List, [], _∷_}
 use Prim.Native.Nat.{ℕ, zero, suc, _+_, _≤_}
@@ -63,12 +63,21 @@ ending-once h f u v a b = go (compared u v)
     go (equal c) = c
     go (after c) = absurd (a .least v (b .fits) c)
 
-pub ending-step : (h f : ℕ) → canEnd (suc h) f ≡ true → leastEnding (suc h) f ≡ leastEvent (suc h) f ∷ leastEnding (s.stateAfterItem (suc h) f (leastEvent (suc h) f) .height) (s.stateAfterItem (suc h) f (leastEvent (suc h) f) .free)
+ending-step : (h f : ℕ) → canEnd (suc h) f ≡ true → leastEnding (suc h) f ≡ leastEvent (suc h) f ∷ leastEnding (s.stateAfterItem (suc h) f (leastEvent (suc h) f) .height) (s.stateAfterItem (suc h) f (leastEvent (suc h) f) .free)
 unfolding canEndAfter
 ending-step h f q = ending-once (suc h) f _ _ (ending-least (suc h) f q) (ending-more h f (leastEvent (suc h) f) _ d (ending-least _ _ (d .ok)))
   where
     d : Leads (suc h) f (leastEvent (suc h) f)
     d = lead-least h f q
+
+-- the same where something is pending
+pub ends-lead : (h f : ℕ) → h ≢ 0 → canEnd h f ≡ true → Leads h f (leastEvent h f)
+ends-lead zero f n q = absurd (n refl)
+ends-lead (suc h) f n q = lead-least h f q
+
+pub ending-lead : (h f : ℕ) → h ≢ 0 → canEnd h f ≡ true → leastEnding h f ≡ leastEvent h f ∷ leastEnding (s.stateAfterItem h f (leastEvent h f) .height) (s.stateAfterItem h f (leastEvent h f) .free)
+ending-lead zero f n q = absurd (n refl)
+ending-lead (suc h) f n q = ending-step h f q
 
 least-0 : (m f : ℕ) → leastEndingIn m 0 f ≡ []
 unfolding leastEndingIn

@@ -14,10 +14,9 @@ use Rattle.listing_successor_states.specs.declared.StackState.{StackState}
 use Rattle.listing_successor_states.specs.States.{stateAfterItem}
 use Rattle.listing_successor_events.specs.Events.{canEnd, canEndAfter, leastEvent}
 use Rattle.listing_successor_events.proofs.Ends.{leads-less}
-use Rattle.listing_successor_events.proofs.Events.{Leads, lead-least}
 use Rattle.listing_successor_endings.specs.declared.Next.{Next}
 use Rattle.listing_successor_endings.specs.Endings.{leastEnding, paddedWord, sharedWord}
-use Rattle.listing_successor_endings.proofs.Endings.{ending-step, ending-0}
+use Rattle.listing_successor_endings.proofs.Endings.{ends-lead, ending-lead, ending-0}
 
 pub padded-more : (p : List ℕ) (x : ℕ) → length p < 51 → set (paddedWord p) (length p) x ≡ paddedWord (p ++ (x ∷ []))
 padded-more p x l =
@@ -57,35 +56,26 @@ pub record Ends (i h f : ℕ) : Type 0 where
   pub small : h + f ≤ 50
   pub room : i + length (leastEnding h f) ≤ 51
 
-module _ (i f : ℕ) where
-  ends-lead : (h : ℕ) → h ≢ 0 → canEnd h f ≡ true → Leads h f (leastEvent h f)
-  ends-lead zero n q = absurd (n refl)
-  ends-lead (suc h) n q = lead-least h f q
+module _ (i f h : ℕ) (n : h ≢ 0) (E : Ends i h f) where
+  pub ends-room : i < 51
+  ends-room = let r = E .room in let e = ap length (ending-lead h f n (E .ended)) in omega arith
 
-  ending-lead : (h : ℕ) → h ≢ 0 → canEnd h f ≡ true → leastEnding h f ≡ leastEvent h f ∷ leastEnding (stateAfterItem h f (leastEvent h f) .height) (stateAfterItem h f (leastEvent h f) .free)
-  ending-lead zero n q = absurd (n refl)
-  ending-lead (suc h) n q = ending-step h f q
+  module _ (e : ℕ) (d : e ≡ leastEvent h f) (l : StackState) (q : l ≡ stateAfterItem h f e) where
+    pub ends-less : l .height + l .free < h + f
+    ends-less = rw (q, d) (leads-less h f (leastEvent h f) (ends-lead h f n (E .ended) .ok))
 
-  module _ (h : ℕ) (n : h ≢ 0) (E : Ends i h f) where
-    pub ends-room : i < 51
-    ends-room = let r = E .room in let e = ap length (ending-lead h n (E .ended)) in omega arith
+    pub ends-more : Ends (i + 1) (l .height) (l .free)
+    unfolding canEndAfter
+    ends-more = record {
+      ended = rw (q, d) (ends-lead h f n (E .ended) .ok);
+      small = let z = ends-less in let s = E .small in omega arith;
+      room = let r = E .room in let z = ap length (ending-lead h f n (E .ended)) in rw (q, d) (omega arith);
+    }
 
-    module _ (e : ℕ) (d : e ≡ leastEvent h f) (l : StackState) (q : l ≡ stateAfterItem h f e) where
-      pub ends-less : l .height + l .free < h + f
-      ends-less = rw (q, d) (leads-less h f (leastEvent h f) (ends-lead h n (E .ended) .ok))
-
-      pub ends-more : Ends (i + 1) (l .height) (l .free)
-      unfolding canEndAfter
-      ends-more = record {
-        ended = rw (q, d) (ends-lead h n (E .ended) .ok);
-        small = let z = ends-less in let s = E .small in omega arith;
-        room = let r = E .room in let z = ap length (ending-lead h n (E .ended)) in rw (q, d) (omega arith);
-      }
-
-      pub wrote-more : (p : List ℕ) (h₀ f₀ : ℕ) (items : List ℕ) → Wrote p h₀ f₀ items i h f → Wrote p h₀ f₀ (set items i e) (i + 1) (l .height) (l .free)
-      wrote-more p h₀ f₀ items W = record {
-        word = W .word ++ (e ∷ []);
-        holds = rw (W .holds, W .long) (padded-more (W .word) e (let r = ends-room in let z = W .long in omega arith));
-        long = rw length-1 (let z = W .long in omega arith);
-        goal = rw (append-assoc, q, d) (rw (ending-lead h n (E .ended)) at (W .goal));
-      }
+    pub wrote-more : (p : List ℕ) (h₀ f₀ : ℕ) (items : List ℕ) → Wrote p h₀ f₀ items i h f → Wrote p h₀ f₀ (set items i e) (i + 1) (l .height) (l .free)
+    wrote-more p h₀ f₀ items W = record {
+      word = W .word ++ (e ∷ []);
+      holds = rw (W .holds, W .long) (padded-more (W .word) e (let r = ends-room in let z = W .long in omega arith));
+      long = rw length-1 (let z = W .long in omega arith);
+      goal = rw (append-assoc, q, d) (rw (ending-lead h f n (E .ended)) at (W .goal));
+    }

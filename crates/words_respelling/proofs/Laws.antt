@@ -20,7 +20,7 @@ use Rattle.words_spelling_events.proofs.Laws as laws
 use Rattle.words_spelling_events.proofs.States.{begun-good, begun-one}
 use Rattle.words_respelling_undo.proofs.Holding.{holds-own}
 use Rattle.words_respelling_undo.proofs.Laws.{take-more, begun-next, listed-begins, place-low}
-use Rattle.words_respelling.specs.SpelledSoFar.{ListedWord, ScratchLengths, SpelledSoFar, SharedBeginning}
+use Rattle.words_respelling.specs.SpelledSoFar.{ListedWord, ScratchLengths, SpelledSoFar, EventDue}
 
 -- ---- an item more
 
@@ -56,7 +56,7 @@ module _ (w : List ℕ) (L : ListedWord w) where
       }
 
   module _ (stack popped s0 s1 : List ℕ) (i used height : ℕ) (a : 1 ≤ i) (l : i < length w) (R : SpelledSoFar (take i w) stack popped s0 s1 used height) where
-    pub spelling-midway : SpellingState D (getD w i 0 ∷ drop (i + 1) w) (stateOf (take i w)) s0 s1 stack s0 s1 used height
+    spelling-midway : SpellingState D (getD w i 0 ∷ drop (i + 1) w) (stateOf (take i w)) s0 s1 stack s0 s1 used height
     spelling-midway =
         let b = listed-begins w i L a (omega arith) in
         rw (← next-item w i l) record {
@@ -66,11 +66,11 @@ module _ (w : List ℕ) (L : ListedWord w) where
           room = room-of D s0 s1 (b .small) (R .long .s0-long) (R .long .s1-long);
         }
 
-    pub spelling-height : (1 ≤ height) × (height ≤ 50)
+    spelling-height : (1 ≤ height) × (height ≤ 50)
     spelling-height = pending-some D _ _ s0 s1 stack s0 s1 used _ height spelling-midway
 
     -- the label that the item pops is noted
-    pub spelling-added : (q t0 t1 : List ℕ) (u h : ℕ) → SpellingState D (drop (i + 1) w) (stateAfter (getD w i 0) (stateOf (take i w))) s0 s1 q t0 t1 u h
+    spelling-added : (q t0 t1 : List ℕ) (u h : ℕ) → SpellingState D (drop (i + 1) w) (stateAfter (getD w i 0) (stateOf (take i w))) s0 s1 q t0 t1 u h
         → SpelledSoFar (take (i + 1) w) q (set popped i (getD stack (height - 1) 0)) t0 t1 u h
     spelling-added q t0 t1 u h M =
         let Lg = R .long in
@@ -108,12 +108,20 @@ module _ (w : List ℕ) (L : ListedWord w) where
   pub first-room : (stack popped s0 s1 : List ℕ) → ScratchLengths stack popped s0 s1 → SpellingRoom D s0 s1
   first-room stack popped s0 s1 Lg = room-of D s0 s1 (listed-begins w 1 L (omega arith) listed-some .small) (Lg .s0-long) (Lg .s1-long)
 
--- ---- what is shared
+-- the same, of an item that is due
+module _ {w : List ℕ} {place item : ℕ} {stack popped s0 s1 : List ℕ} {used height : ℕ} (E : EventDue w place item stack popped s0 s1 used height) where
+  pub due-low : place < 64
+  due-low = place-low w place (E .listed) (E .within)
 
-pub shares-some : (old new stack popped s0 s1 : List ℕ) (shared used height : ℕ) → SharedBeginning old new shared stack popped s0 s1 used height → (shared ≡ 0 → ⊥)
-    → (1 ≤ shared) × (shared ≤ length old) × (shared ≤ length new) × (take shared old ≡ take shared new) × SpelledSoFar old stack popped s0 s1 used height
-shares-some old new stack popped s0 s1 shared used height (inl e) n = absurd (n e)
-shares-some old new stack popped s0 s1 shared used height (inr h) n = h
+  pub due-height : (1 ≤ height) × (height ≤ 50)
+  due-height = spelling-height w (E .listed) stack popped s0 s1 place used height (E .started) (E .within) (E .spelled)
+
+  pub due-midway : SpellingState (E .listed .2 .pair) (item ∷ drop (place + 1) w) (stateOf (take place w)) s0 s1 stack s0 s1 used height
+  due-midway = rw (E .item-is) (spelling-midway w (E .listed) stack popped s0 s1 place used height (E .started) (E .within) (E .spelled))
+
+  pub due-added : (q t0 t1 : List ℕ) (u h : ℕ) → SpellingState (E .listed .2 .pair) (drop (place + 1) w) (stateAfter item (stateOf (take place w))) s0 s1 q t0 t1 u h
+      → SpelledSoFar (take (place + 1) w) q (set popped place (getD stack (height - 1) 0)) t0 t1 u h
+  due-added q t0 t1 u h M = spelling-added w (E .listed) stack popped s0 s1 place used height (E .started) (E .within) (E .spelled) q t0 t1 u h (rw (E .item-is) at M)
 
 -- ---- a whole word
 

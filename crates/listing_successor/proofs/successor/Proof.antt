@@ -10,7 +10,7 @@ use Rattle.words.specs.Shape.{Fits, Word}
 use Rattle.listing_successor.specs.Successor.{stateAfterFirst, leastEnding, sharedWord}
 use Rattle.listing_successor.specs.Promises.{SuccessorPromise}
 use Rattle.listing_successor.specs.Reading.{Raises}
-use Rattle.listing_successor.proofs.Padding.{agree-none, agree-take, succeeds}
+use Rattle.listing_successor.proofs.Padding.{succeeds}
 use Rattle.listing_successor_states.proofs.States.{start-small}
 use Rattle.listing_successor.proofs.Forwards.{rest, word-to-rest}
 use Rattle.listing_successor.proofs.Branches.{word-there, start-T-ends, raised-room, following-first, following-raised, following-rooted, following-none}
@@ -46,7 +46,7 @@ room c e = let d = c .before .before in raised-room (n d) _ _ _ _ (word d) (d .b
 nothing : (c : tie.After-last-raise) → c .last-raise .result .event ≡ 0 → let d = c .before .before in (getD (word d) 0 0 ≢ 0) ⊎ (n d < 3) → SuccessorPromise (n d) (word d) (sharedWord 0 [])
 nothing c z k =
     let d = c .before .before in
-    succeeds (n d) 0 (word d) [] _ (following-none (n d) _ _ _ _ z (word d) (d .if1 .left) (raising c) k) (agree-none _ _) refl
+    succeeds (n d) 0 (word d) [] _ (following-none (n d) _ _ _ _ z (word d) (d .if1 .left) (raising c) k) refl
 
 first-word-requires : tie.Need-first-word-requires
 first-word-requires c κs = search needs
@@ -54,7 +54,7 @@ first-word-requires c κs = search needs
 returns : tie.Need-returns
 returns c =
     let a = c .before .before .before .args in
-    succeeds (a .n) 0 (a .word .now) _ _ (following-first (a .n) (a .word .now) (c .before .if1 .taken)) (agree-none _ _) (c .first-word .ensures)
+    succeeds (a .n) 0 (a .word .now) _ _ (following-first (a .n) (a .word .now) (c .before .if1 .taken)) (c .first-word .ensures)
 
 sub-last-raise : tie.Need-sub-last-raise
 sub-last-raise c = search needs
@@ -81,7 +81,6 @@ returns-2 : tie.Need-returns-2
 returns-2 c =
     let d = c .before .before .before .before in
     let w = word (d .before .before) in
-    let i = room d (λ z. omega arith) in
     succeeds
     (n (d .before .before))
     (d .last-raise .result .place + 1)
@@ -89,7 +88,6 @@ returns-2 c =
     _
     _
     (following-raised (n (d .before .before)) _ _ _ _ w (d .before .before .if1 .left) (λ z. omega arith) (raising d))
-    (agree-take (d .last-raise .result .place + 1) w _ (i .0))
     (c .raise-at .ensures)
 
 shared-slice-read-if3 : tie.Need-shared-slice-read-if3
@@ -102,7 +100,7 @@ returns-3 : tie.Need-returns-3
 returns-3 c =
     let d = c .before .before .before .before .before .before in
     let e = following-rooted (n (d .before .before)) _ _ _ _ (omega arith) (word (d .before .before)) (d .before .before .if1 .left) (raising d) (c .before .before .if3 .taken) (c .before .if4 .taken) in
-    succeeds (n (d .before .before)) 0 (word (d .before .before)) _ _ e (agree-none _ _) (c .least-word .ensures)
+    succeeds (n (d .before .before)) 0 (word (d .before .before)) _ _ e (c .least-word .ensures)
 
 returns-4 : tie.Need-returns-4
 returns-4 c =

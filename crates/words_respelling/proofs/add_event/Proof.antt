@@ -1,39 +1,30 @@
 -- `add_event` notes the label on top and reads the item: from the state before it to the state after it.
 use borrow.Author.Needs.{needs}
 use native.Mathlib.Omega.{arith}
-use Rattle.words_respelling_undo.proofs.Laws.{place-low}
-use Rattle.words_respelling.proofs.Laws.{spelling-midway, spelling-height, spelling-added}
+use Rattle.words_respelling.proofs.Laws.{due-low, due-height, due-midway, due-added}
 use Rattle.words_respelling.proofs.add_event.Statement.{statement}
 use Rattle.words_respelling.proofs.add_event.Tie as tie
 
 sub-popped : tie.Need-sub-popped
-sub-popped c = let (a, l, L, R) = c .before .pre in let i = spelling-height _ L _ _ _ _ _ _ _ a l R in omega arith
+sub-popped c = let i = due-height (c .pre .1) in omega arith
 
 mul-popped : tie.Need-mul-popped
 mul-popped c = search needs
 
 element-copy-out-popped : tie.Need-element-copy-out-popped
-element-copy-out-popped c = let (a, l, L, R) = c .before .pre in let i = spelling-height _ L _ _ _ _ _ _ _ a l R in omega arith
+element-copy-out-popped c = let i = due-height (c .pre .1) in omega arith
 
 mul-popped-2 : tie.Need-mul-popped-2
-mul-popped-2 c = search needs
+mul-popped-2 c = let i = due-low (c .before .pre .1) in record { fits = omega arith }
 
 element-write-popped : tie.Need-element-write-popped
-element-write-popped c = let (a, l, L, R) = c .before .before .pre in place-low _ _ L l
-
-mul-event : tie.Need-mul-event
-mul-event c = search needs
-
-shared-slice-read-event : tie.Need-shared-slice-read-event
-shared-slice-read-event c = search needs
+element-write-popped c = due-low (c .before .pre .1)
 
 event-requires : tie.Need-event-requires
-event-requires c κs = let (a, l, L, R) = c .before .before .before .before .before .before .pre in (_, _, _, _, _, spelling-midway _ L _ _ _ _ _ _ _ a l R)
+event-requires c κs = (_, _, _, _, _, due-midway (c .before .before .before .before .pre .1))
 
 returns : tie.Need-returns
-returns c =
-    let (a, l, L, R) = c .before .before .before .before .before .before .before .pre in
-    spelling-added _ L _ _ _ _ _ _ _ a l R _ _ _ _ _ (c .event .ensures _ _ _ _ _ (spelling-midway _ L _ _ _ _ _ _ _ a l R))
+returns c = λ w E. due-added E _ _ _ _ _ (c .event .ensures _ _ _ _ _ (due-midway E))
 
 pub add-event-spec : {M : Type 1} → statement M
 add-event-spec =
@@ -44,7 +35,5 @@ add-event-spec =
     element-copy-out-popped
     mul-popped-2
     element-write-popped
-    mul-event
-    shared-slice-read-event
     event-requires
     returns)
