@@ -8,7 +8,7 @@ use native.Mathlib.Numerals.{add-one}
 use native.Mathlib.Omega.{arith}
 use lib.ListN.{length, getD, set, take, drop, length-set, length-append, length-drop, take-append-drop, drop-of-length-le}
 use lib.Seq.{take-suc, drop-cons, length-take-le, take-take, take-all, take-at, getD-at, getD-take, drop-append-add, take-suc-set}
-use Rattle.words.specs.Shape.{Fits, Word}
+use Rattle.words.specs.Shape.{Word}
 use Rattle.words.proofs.Shape.{word-spells, word-length}
 use Rattle.words_respelling.specs.SpelledSoFar.{SpelledSoFar, EventDue}
 use Rattle.listing_successor_states.specs.declared.StackState.{StackState}
@@ -140,9 +140,6 @@ module _ {n : ℕ} {v items : List ℕ} {i : ℕ} {stack popped s0 s1 : List ℕ
 
   pub part-low : height + f ≤ 50
   part-low = here-small n v (P .word) i (P .spelled) (P .small)
-
-  pub part-place : i ≤ 51
-  part-place = let l = word-length n v (P .word) in let s = P .small in let m = P .within in omega arith
 
   module _ (end : drop i v ≡ leastEnding height f) where
     ended : canEnd height f ≡ true

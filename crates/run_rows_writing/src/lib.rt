@@ -1,12 +1,14 @@
 // The writing of a block's rows: the next diagrams of a run, as many as are asked for, one after another, as that many steps would give them.
-use listing_successor::successor;
+use lists::fill;
+use run_advance::advance;
+use run_advance::draw_word;
 use run_answers::Run;
-use run_row::spell_row;
-use words_spelling_events::LabelCounts;
+use run_row::row;
 ghost use mathlib.Core.Path.{_≡_};
-ghost use mathlib.Core.Logic.{_≢_, _⊎_};
-ghost use Prim.Native.Nat.{ℕ};
+ghost use Prim.Native.Nat.{ℕ, _≤_};
+ghost use lib.ListN.{length};
 ghost use Rattle.words_respelling.specs.SpelledSoFar.{ScratchLengths};
+ghost use Rattle.listing_successor.specs.Successor.{paddedWord};
 ghost use Rattle.run_answers.specs.Promises.{RunAt};
 ghost use Rattle.run_rows_writing.specs.Promises.{runOf, ShortRows, RowsGiven};
 
@@ -16,14 +18,14 @@ pub struct Reached {
     pub run: Run,
 }
 
-// How many items of the last row's spelling serve the next row: nothing is spelled before the first.
-fn shared_items(i: usize, shared: usize) -> usize
-    ensures { λ r. ⌜ (r ≡ 0) ⊎ ((i ≢ 0) × (r ≡ shared)) ⌝ }
+// A word in the first places of 51, with zeros after it.
+fn padded(word: &[u16]) -> [u16; 51]
+    requires { ⌜ length (now word) ≤ 51 ⌝ }
+    ensures { λ r. ⌜ r ≡ paddedWord (now (word .entry)) ⌝ }
 {
-    if i == 0 {
-        return 0;
-    }
-    shared
+    let mut items = [0u16; 51];
+    fill(&mut items, word);
+    items
 }
 
 // The rows so far, and the run with these fields.
@@ -41,7 +43,7 @@ fn arrived(rows: usize, size: u64, stage: u64, length: usize, items: [u16; 51]) 
     }
 }
 
-// The rows of a run that is not finished, into lists that are long enough. The spelling goes on from row to row.
+// The rows of a run that is not finished, into lists that are long enough. The word is changed in place, and its diagram with it.
 pub fn write_rows(
     run: Run,
     rows: usize,
@@ -60,45 +62,36 @@ pub fn write_rows(
         (now (s0 .exit)) (now (s1 .exit)) (now (words .exit)) (now (lengths .exit)) ⌝ }
 {
     let n = run.size as usize;
-    let mut counts = LabelCounts { used: 0, height: 0 };
+    let size = run.size as u16;
     let mut stage = run.stage;
     let mut items = run.items;
     let mut l = run.length as usize;
+    draw_word(&items[..l], stack, popped, d0, d1);
     let mut edge: usize = 0;
     let mut place: usize = 0;
     let mut i: usize = 0;
     while i < rows {
-        let next = successor(&items[..l], run.size as u16);
-        let k = next.length;
-        if k == 0 {
+        l = advance(&mut items, l, size, stack, popped, d0, d1);
+        if l == 0 {
             return arrived(i, run.size, 2, 0, [0u16; 51]);
         }
-        let shared = shared_items(i, next.shared);
-        let new = next.items;
-        counts = spell_row(
-            &items[..l],
-            &new[..k],
-            shared,
-            counts,
+        row(
+            d0,
+            d1,
             n,
+            &items[..l],
             edge,
             place,
             i,
-            stack,
-            popped,
-            d0,
-            d1,
             s0,
             s1,
             words,
             lengths,
         );
         stage = 1;
-        items = new;
-        l = k;
         edge += n;
-        place += k;
+        place += l;
         i += 1;
     }
-    arrived(i, run.size, stage, l, items)
+    arrived(i, run.size, stage, l, padded(&items[..l]))
 }

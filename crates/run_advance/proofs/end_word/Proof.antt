@@ -1,7 +1,6 @@
 -- `end_word` meets its contract. Invariant: of the word that is to be drawn, the items before i are, and the rest is the least ending from the
 -- counts there. Each item lowers the sum of the pending and the free labels, the measure.
 use mathlib.Core.Path.{_≡_}
-use mathlib.Core.Logic.{_≢_}
 use mathlib.Core.List.{List}
 use Prim.Native.Nat.{ℕ, _+_, _-_}
 use native.Mathlib.Omega.{arith}
