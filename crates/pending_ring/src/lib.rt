@@ -75,8 +75,8 @@ pub fn depth(next: &[u16; 1025], l: u16) -> usize
     d
 }
 
-// The label that stands d places below the top.
-pub fn label_at(next: &[u16; 1025], d: usize) -> u16
+// The label that stands d places below the top. With the links back for next, it is the one d places above the bottom.
+fn label_at(next: &[u16; 1025], d: usize) -> u16
     requires { ⌜ ((pv : List ℕ) × (s : List ℕ) × Ring (now next) pv s × (d < length s)) ⌝ }
     ensures { λ r. ⌜ ((pv s : List ℕ) → Ring (now (next .entry)) pv s → d < length s → r ≡ getD s d 0) ⌝ }
 {
@@ -88,4 +88,15 @@ pub fn label_at(next: &[u16; 1025], d: usize) -> u16
         i += 1;
     }
     cur
+}
+
+// The label that stands d places below the top of a stack of that height: a walk from the nearer end.
+pub fn label_below(next: &[u16; 1025], prev: &[u16; 1025], d: usize, height: usize) -> u16
+    requires { ⌜ ((s : List ℕ) × Ring (now next) (now prev) s × (height ≡ length s) × (d < length s)) ⌝ }
+    ensures { λ r. ⌜ ((s : List ℕ) → Ring (now (next .entry)) (now (prev .entry)) s → height ≡ length s → d < length s → r ≡ getD s d 0) ⌝ }
+{
+    if d < height - d {
+        return label_at(next, d);
+    }
+    label_at(prev, height - 1 - d)
 }

@@ -124,7 +124,7 @@ pub fn join_pending(
     if height <= d {
         return Step::Refused(23);
     }
-    let p = pending_ring::label_at(next, to_index(d));
+    let p = pending_ring::label_below(next, prev, to_index(d), to_index(height));
     pending_ring::unhook(next, prev, p);
     pair(x1, k, p);
     Step::Next {
