@@ -1,5 +1,5 @@
 -- Laws of the pending ring. Stores outside a linked list leave it linked (`linked-kept`); what the stores of push, pop and unhook
--- do follows by going through the list. A walk down the links meets the stack's labels one by one (`ring-next`).
+-- do follows by going through the list. A walk down the links meets the stack's labels one by one (`walk-label`).
 use mathlib.Core.Path.{_≡_, refl, sym, ap, _∙_}
 use mathlib.Core.Logic.{_⊎_, inl, inr, ⊎-elim}
 use mathlib.Core.List.{List, [], _∷_}
@@ -11,7 +11,7 @@ use lib.ListN.{length, getD, set, drop, replicate, length-set, length-replicate}
 use lib.Seq.{getD-set-same, getD-set-other, lt-length-set}
 use Rattle.lists.specs.Lists.{Has, Distinct, All, find, removeAt}
 use Rattle.lists.specs.Ranges.{OneTo}
-use Rattle.lists.proofs.Lists.{has-getD, find-lt, getD-find, find-getD, removeAt-has, distinct-removeAt, all-removeAt, all-has}
+use Rattle.lists.proofs.Lists.{has-getD, find-lt, getD-find, find-getD, removeAt-has, distinct-removeAt, all-removeAt, all-at, all-has}
 use Rattle.lists.proofs.Tests.{lt?}
 use Rattle.lists.proofs.Ranges.{edges-few}
 use Rattle.pending_ring.specs.Ring.{Linked, Ring}
@@ -136,10 +136,6 @@ module _ (nx pv s : List ℕ) (r : Ring nx pv s) where
   pub ring-top : getD nx 0 0 ≡ getD s 0 0
   ring-top = linked-at nx pv 0 s 0 (omega arith) (r .links)
 
-  -- a label's link is the label below it; the sentinel below the last
-  ring-next : (d : ℕ) → d < length s → getD nx (getD s d 0) 0 ≡ getD s (d + 1) 0
-  ring-next d h = rw add-one (linked-at nx pv 0 s (suc d) h (r .links))
-
   -- the links are indices
   pub ring-next-small : (l : ℕ) → Has l (0 ∷ s) → getD nx l 0 < 1025
   ring-next-small l (inl e) = rw e (⊎-elim (all-has (λ x. x < 1025) s (getD nx 0 0) (r .small)) (λ z. omega arith) (linked-first nx pv 0 s 0 (r .links)))
@@ -195,32 +191,38 @@ ring-pop nx pv (x ∷ s) r =
       links = linked-pop nx pv 1025 (r .next-long) (r .prev-long) 0 x s 0 (omega arith) (omega arith) (r .once .0) (r .once .0) (r .small .1) (r .once .1 .1) (r .links .1);
     }
 
--- ---- a walk down to the place t: i labels are passed, and cur stands at place i
+-- ---- a walk from the sentinel down to the place t: i labels are passed, and the link from index leads to the one at place i
 
-pub record Walk (s : List ℕ) (t i cur : ℕ) : Type 0 where
+pub record Walk (s : List ℕ) (t i index : ℕ) : Type 0 where
   pub within : i ≤ t
-  pub label : cur ≡ getD s i 0
+  pub label : index ≡ getD (0 ∷ s) i 0
 
 module _ (nx pv s : List ℕ) (r : Ring nx pv s) (t : ℕ) (h : t < length s) where
-  pub walk-start : Walk s t 0 (getD nx 0 0)
-  walk-start = record { within = omega arith; label = ring-top nx pv s r }
+  pub walk-start : Walk s t 0 0
+  walk-start = record { within = omega arith; label = refl }
 
-  module _ (i cur : ℕ) (w : Walk s t i cur) where
-    pub walk-small : cur < 1025
-    walk-small = let e = ring-labels nx pv s r cur (rw (w .label) (has-getD s i (omega (arith, w .within)))) in omega arith
+  module _ (i index : ℕ) (w : Walk s t i index) where
+    pub walk-small : index < 1025
+    walk-small = rw (w .label) (all-at (λ x. x < 1025) (0 ∷ s) i 0 (omega arith, r .small) (omega (arith, w .within)))
 
     pub walk-few : i < 1024
     walk-few = let n = ring-few nx pv s r in omega (arith, w .within)
 
-    pub walk-next : i < t → Walk s t (i + 1) (getD nx cur 0)
-    walk-next k = record { within = omega arith; label = rw (w .label) (ring-next nx pv s r i (omega arith)) }
+    pub walk-label : getD nx index 0 ≡ getD s i 0
+    walk-label = rw (w .label) (linked-at nx pv 0 s i (omega (arith, w .within)) (r .links))
+
+    pub walk-next : i < t → Walk s t (i + 1) (getD nx index 0)
+    walk-next k = record { within = omega arith; label = rw add-one walk-label }
 
 -- the walk to the place of l comes to l there, and not before
-module _ (nx pv s : List ℕ) (r : Ring nx pv s) (l : ℕ) (h : Has l s) (d cur : ℕ) (w : Walk s (find l s) d cur) where
-  pub walk-on : ¬ (cur ≡ l) → d < find l s
-  walk-on n = ⊎-elim (λ k. k) (λ k. absurd (n (w .label ∙ ap (λ (i : ℕ). getD s i 0) (omega (arith, w .within)) ∙ getD-find l s h))) (lt? d (find l s))
+module _ (nx pv s : List ℕ) (r : Ring nx pv s) (l : ℕ) (h : Has l s) (d index : ℕ) (w : Walk s (find l s) d index) where
+  walk-at : getD nx index 0 ≡ getD s d 0
+  walk-at = walk-label nx pv s r (find l s) (find-lt l s h) d index w
 
-  pub walk-found : cur ≡ l → d ≡ find l s
+  pub walk-on : ¬ (getD nx index 0 ≡ l) → d < find l s
+  walk-on n = ⊎-elim (λ k. k) (λ k. absurd (n (walk-at ∙ ap (λ (i : ℕ). getD s i 0) (omega (arith, w .within)) ∙ getD-find l s h))) (lt? d (find l s))
+
+  pub walk-found : getD nx index 0 ≡ l → d ≡ find l s
   walk-found e =
       let k = find-lt l s h in
-      sym (find-getD s d (r .once .1) (omega (arith, w .within))) ∙ ap (λ (x : ℕ). find x s) (sym (w .label) ∙ e)
+      sym (find-getD s d (r .once .1) (omega (arith, w .within))) ∙ ap (λ (x : ℕ). find x s) (sym walk-at ∙ e)

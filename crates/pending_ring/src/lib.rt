@@ -1,5 +1,6 @@
 // The pending ring: a stack of labels in two lent arrays of 1,025 links, so that an edge can be taken out wherever it stands.
 // Each contract is said of every stack that the arrays hold; arrays that are all zero hold the empty stack.
+// A walk starts at the sentinel and carries its place as an index: compiled, a link then costs one load and no conversion.
 use lists::to_index;
 ghost use mathlib.Core.Path.{_≡_};
 ghost use mathlib.Core.List.{List, [], _∷_};
@@ -65,11 +66,11 @@ pub fn depth(next: &[u16; 1025], l: u16) -> usize
     requires { ⌜ ((pv : List ℕ) × (s : List ℕ) × Ring (now next) pv s × Has l s) ⌝ }
     ensures { λ r. ⌜ ((pv s : List ℕ) → Ring (now (next .entry)) pv s → Has l s → r ≡ find l s) ⌝ }
 {
-    let mut cur = next[0];
+    let mut index: usize = 0;
     let mut d: usize = 0;
-    while cur != l {
-        let index = to_index(cur);
-        cur = next[index];
+    while next[index] != l {
+        let below = next[index];
+        index = to_index(below);
         d += 1;
     }
     d
@@ -80,14 +81,14 @@ fn label_at(next: &[u16; 1025], d: usize) -> u16
     requires { ⌜ ((pv : List ℕ) × (s : List ℕ) × Ring (now next) pv s × (d < length s)) ⌝ }
     ensures { λ r. ⌜ ((pv s : List ℕ) → Ring (now (next .entry)) pv s → d < length s → r ≡ getD s d 0) ⌝ }
 {
-    let mut cur = next[0];
+    let mut index: usize = 0;
     let mut i: usize = 0;
     while i < d {
-        let index = to_index(cur);
-        cur = next[index];
+        let below = next[index];
+        index = to_index(below);
         i += 1;
     }
-    cur
+    next[index]
 }
 
 // The label that stands d places below the top of a stack of that height: a walk from the nearer end.
