@@ -10,11 +10,11 @@ ghost use Rattle.listing.specs.Listing.{ways};
 ghost use Rattle.listing_places_ways.specs.Steps.{Chosen, Unranking};
 
 // An event, with the height and the labels free after it, and the place among the ways to go on from there.
-struct Choice {
-    item: u16,
-    height: usize,
-    free: usize,
-    place: u64,
+pub struct Choice {
+    pub item: u16,
+    pub height: usize,
+    pub free: usize,
+    pub place: u64,
 }
 
 // Jd: the block that the place falls in, all blocks of the J being of one length.
@@ -32,7 +32,7 @@ fn choose_join(h: usize, free: usize, place: u64) -> Choice
 }
 
 // The first item of the way to go on at a place.
-fn choose(height: usize, free: usize, place: u64) -> Choice
+pub fn choose(height: usize, free: usize, place: u64) -> Choice
     requires { ⌜ (1 ≤ height) × (3 * height + free ≤ 56) × (place < ways height free) ⌝ }
     ensures { λ r. ⌜ Chosen height free place (r .item) (r .height) (r .free) (r .place) ⌝ }
 {

@@ -1,7 +1,7 @@
 // Count and diagram at a position, and what these two and position of a diagram (crate listing_position) answer.
 use diagrams::Diagram;
 use listing_places::count_of;
-use listing_places::unranking::word_at;
+use listing_unranking::write_at;
 ghost use mathlib.Core.Path.{_≡_};
 ghost use lib.ListN.{length};
 ghost use Rattle.lists.specs.Ranges.{OneTo};
@@ -39,17 +39,6 @@ pub fn count(n: u64) -> Total
     Total::Number(count_of(n))
 }
 
-// Writes the diagram at a position that there is, with its word, into lists that are long enough.
-fn write_at(n: u64, p: u64, s0: &mut [u16], s1: &mut [u16], word: &mut [u16]) -> u16
-    requires { ⌜ OneTo 50 n × OneTo (count n) p × (¬ Short n (now s0) (now s1) (now word)) ⌝ }
-    ensures { λ r. ⌜ (r ≡ length (wordAt n p))
-        × Written (diagramAt n p) (wordAt n p) (now (s0 .entry)) (now (s1 .entry)) (now (word .entry)) (now (s0 .exit)) (now (s1 .exit)) (now (word .exit)) ⌝ }
-{
-    let m = word_at(n, p, word);
-    words_spelling::write_diagram(&word[..m], s0, s1);
-    m as u16
-}
-
 // Writes the diagram at position p of size n, which has root 1 and is in its characteristic labelling, and its word, whose length
 // it returns. Refuses 31; 32, a position that is 0 or above the count; 9, an output list that is short (n, n, and n + 1).
 pub fn diagram_at(n: u64, p: u64, s0: &mut [u16], s1: &mut [u16], word: &mut [u16]) -> Entry
@@ -77,5 +66,5 @@ pub fn diagram_at(n: u64, p: u64, s0: &mut [u16], s1: &mut [u16], word: &mut [u1
     if word.len() <= size {
         return Entry::Refused(9);
     }
-    Entry::Length(write_at(n, p, s0, s1, word))
+    Entry::Length(write_at(n, p, s0, s1, word) as u16)
 }

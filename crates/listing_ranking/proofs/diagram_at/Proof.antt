@@ -4,6 +4,7 @@ use mathlib.Core.Path.{refl}
 use mathlib.Core.Logic.{inl, inr}
 use native.Mathlib.Omega.{arith}
 use Rattle.words.proofs.Outputs.{not-short, untouched}
+use Rattle.listing_ranking.proofs.Answers.{at-length}
 use Rattle.listing_ranking.proofs.diagram_at.Statement.{statement}
 use Rattle.listing_ranking.proofs.diagram_at.Tie as tie
 
@@ -35,6 +36,11 @@ write-at-requires : tie.Need-write-at-requires
 write-at-requires c κs =
     let x = c .before .before .before .before .before .before .before .before .before .before .before .before .before .before .args in
     (omega arith, omega (arith, c .before .before .before .before .before .before .before .count-of .ensures), not-short (x .n) (x .s0 .now) (x .s1 .now) (x .word .now) (c .before .before .before .before .before .if5 .left) (c .before .before .before .before .if6 .left) (c .before .before .before .if7 .left))
+
+cast-t16 : tie.Need-cast-t16
+cast-t16 c =
+    let x = c .before .before .before .before .before .before .before .before .before .before .before .before .before .before .before .before .before .before .before .before .before .args in
+    omega (arith, c .before .before .before .before .before .before .write-at .ensures .0, at-length (x .n) (x .p) (omega (arith, c .before .before .before .before .before .before .before .before .before .before .before .before .before .before .count-of .ensures, c .before .before .before .before .before .before .before .before .before .before .before .before .before .before .before .if3 .left, c .before .before .before .before .before .before .before .before .before .before .before .before .before .if4 .left)), c .before .before .before .before .before .before .before .before .before .before .before .before .before .before .before .before .if2 .left)
 
 same-length : tie.Need-same-length
 same-length c = search needs
@@ -68,6 +74,7 @@ diagram-at-spec =
     returns-6
     returns-7
     write-at-requires
+    cast-t16
     same-length
     same-length-2
     same-length-3
