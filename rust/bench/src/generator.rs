@@ -141,8 +141,14 @@ impl<F: FnMut(&[u16], &[u16], &[u16])> Generator<F> {
     }
 }
 
-/// The keep mark of a diagram whose word is known, in its characteristic labelling.
+/// The keep mark of a diagram whose word is known, in its characteristic labelling: each rooting is traced up to the first item that differs.
 pub fn kept_known(s0: &[u16], s1: &[u16], word: &[u16]) -> bool {
     let mut room = [0; SMALL];
     Rooting::<Bits, SMALL>::new(s0, s1, Stack::over(&mut room)).least(1, word)
+}
+
+/// The same with the test of U and T before any tracing.
+pub fn kept_tested(s0: &[u16], s1: &[u16], word: &[u16]) -> bool {
+    let mut room = [0; SMALL];
+    Rooting::<Bits, SMALL>::new(s0, s1, Stack::over(&mut room)).least_tested(1, word)
 }

@@ -52,6 +52,12 @@ pub fn count_of(n: usize) -> u64 {
     WAYS[1][n - 1] + if n >= 3 { WAYS[3][n - 3] } else { 0 }
 }
 
+/// How many beginnings of words there are of the sizes up to a listed one.
+#[inline(always)]
+pub fn branches_of(n: usize) -> u64 {
+    BRANCHES[1][n - 1] + if n >= 3 { BRANCHES[3][n - 3] } else { 0 }
+}
+
 /// Whether a word can be ended: apart from an emptied stack, one pending label with two labels left is the only dead end.
 #[inline(always)]
 pub fn ends(h: usize, f: usize) -> bool {

@@ -1,4 +1,4 @@
-//! The share book's claim, take, commit and range of commits, on the book in its place. Condition 50 is tested share by share.
+//! The share book's claim, take, commit and range of commits, on the book in its place. Condition 50 is tested in one loop over the shares.
 use super::positions::diagram_at;
 use kaldvemir::Taken;
 use kaldvemir::Book;
@@ -25,25 +25,37 @@ fn valid(book: &Book) -> bool {
     if !listed(book.size) || !(1..=MAX_SHARES).contains(&book.shares) || book.issued > MAX_ISSUED || book.latest >= TICKS {
         return false;
     }
-    let k = book.shares as usize;
-    let unused = |list: &[u64]| list[k..].iter().all(|&x| x == 0);
-    shares_valid(book) && unused(&book.next) && unused(&book.ticket) && unused(&book.expiry)
+    let unused = |list: &[u64]| list[book.shares as usize..].iter().fold(0, |any, &x| any | x);
+    shares_valid(book) && unused(&book.next) | unused(&book.ticket) | unused(&book.expiry) == 0
 }
 
+/// One loop over the shares, each share's last position found from the one before. Tickets other than 0 that differ modulo 64 differ; only where two do
+/// not are they compared with one another.
 fn shares_valid(book: &Book) -> bool {
-    let total = count_of(book.size as usize);
-    let mut before = 0;
-    (0..book.shares as usize).all(|i| {
-        let last = last_of(total, book.shares, i as u64 + 1);
-        let (next, ticket, expiry) = (book.next[i], book.ticket[i], book.expiry[i]);
+    let (k, total) = (book.shares, count_of(book.size as usize));
+    let (step, part) = (total / k, total % k);
+    let (mut before, mut rest) = (0, 0);
+    let (mut seen, mut clash) = ([false; 64], false);
+    for ((&next, &ticket), &expiry) in book.next.iter().zip(&book.ticket).zip(&book.expiry).take(k as usize) {
+        rest += part;
+        let more = (rest >= k) as u64;
+        rest -= more * k;
+        let last = before + step + more;
         let placed = before < next && next <= last + 1 && (next <= last || ticket == 0);
         before = last;
-        placed
-            && (ticket == 0 || !book.ticket[..i].contains(&ticket))
-            && ticket <= book.issued
-            && (ticket != 0 || expiry == 0)
-            && expiry <= book.latest + MAX_LENGTH
-    })
+        if !(placed && ticket <= book.issued && (ticket != 0 || expiry == 0) && expiry <= book.latest + MAX_LENGTH) {
+            return false;
+        }
+        let seen = &mut seen[ticket as usize % 64];
+        clash |= *seen & (ticket != 0);
+        *seen |= ticket != 0;
+    }
+    !clash || differ(&book.ticket[..k as usize])
+}
+
+/// Whether no two tickets other than 0 are equal.
+fn differ(tickets: &[u64]) -> bool {
+    tickets.iter().enumerate().all(|(i, &ticket)| ticket == 0 || !tickets[..i].contains(&ticket))
 }
 
 /// 50, then 52.

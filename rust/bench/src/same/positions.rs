@@ -1,7 +1,8 @@
 //! Diagram at a position, and position of a diagram, by the table of counts.
-use super::check::check;
-use super::labelling::Labelling;
-use super::writing::write_diagram;
+use super::check::{check, maps};
+use super::drawing::Drawing;
+use super::labelling::{Labels, Rooting, SMALL_PLACES};
+use super::ring::Ring;
 use crate::table::{count_of, listed, Table, MAX_LISTED, WAYS};
 
 pub fn diagram_at(size: u64, position: u64, s0: &mut [u16], s1: &mut [u16], word: &mut [u16]) -> Result<usize, u16> {
@@ -15,9 +16,7 @@ pub fn diagram_at(size: u64, position: u64, s0: &mut [u16], s1: &mut [u16], word
     if s0.len() < n || s1.len() < n || word.len() <= n {
         return Err(9);
     }
-    let length = unrank(n, position - 1, word);
-    write_diagram(&word[..length], s0, s1);
-    Ok(length)
+    Ok(write_at(n, position - 1, s0, s1, word))
 }
 
 /// What a table has for going on with F and with B, at h labels below the one that is popped.
@@ -31,89 +30,98 @@ fn singles(table: &Table, h: usize, f: usize) -> u64 {
     if f >= 1 { table[h][f - 1] } else { 0 }
 }
 
-/// Writes the word at a place, counted from 0, and returns its length.
-fn unrank(n: usize, mut place: u64, word: &mut [u16]) -> usize {
+/// Writes the word at a place, counted from 0, and its diagram, each event drawn as it is chosen; returns the word's length.
+fn write_at(n: usize, mut place: u64, s0: &mut [u16], s1: &mut [u16], word: &mut [u16]) -> usize {
     let single = WAYS[1][n - 1];
-    let (mut h, mut f) = (1, n - 1);
-    word[0] = 0;
-    if place >= single {
+    word[0] = (place >= single) as u16;
+    if word[0] == 1 {
         place -= single;
-        (h, f) = (3, n - 3);
-        word[0] = 1;
     }
+    let mut stack = [0; 64];
+    let mut drawing = Drawing::begin(word[0], s0, s1, &mut stack);
     let mut length = 1;
-    while h != 0 {
+    while drawing.height != 0 {
         let item;
-        (item, h, f, place) = choose(h - 1, f, place);
+        (item, place) = choose(drawing.height - 1, n - drawing.used, place);
+        drawing.event(item);
         word[length] = item;
         length += 1;
     }
     length
 }
 
-/// The event in whose block the place falls, the height and the labels free after it, and the place within the block.
+/// The event in whose block the place falls, and the place within the block.
 #[inline]
-fn choose(h: usize, f: usize, mut place: u64) -> (u16, usize, usize, u64) {
-    let welds = WAYS[h][f];
-    if place < welds {
-        return (0, h, f, place);
+fn choose(h: usize, f: usize, mut place: u64) -> (u16, u64) {
+    for (item, block) in [(0, WAYS[h][f]), (1, forks(&WAYS, h, f)), (2, singles(&WAYS, h, f))] {
+        if place < block {
+            return (item, place);
+        }
+        place -= block;
     }
-    place -= welds;
-    let forks = forks(&WAYS, h, f);
-    if place < forks {
-        return (1, h + 2, f - 3, place);
-    }
-    place -= forks;
-    let singles = singles(&WAYS, h, f);
-    if place < singles {
-        return (2, h, f - 1, place);
-    }
-    place -= singles;
     let block = WAYS[h - 1][f];
-    (3 + (place / block) as u16, h - 1, f, place % block)
+    (3 + (place / block) as u16, place % block)
 }
 
 pub fn position(s0: &[u16], s1: &[u16], root: u64) -> Result<u64, u16> {
-    check(s0, s1, root)?;
     let n = s0.len();
     if n > MAX_LISTED {
+        check(s0, s1, root)?;
         return Err(31);
     }
-    let mut word = [0; MAX_LISTED + 1];
-    let length = Labelling::new(s0, s1).word(root as u16, &mut word);
-    Ok(rank(n, &word[..length]))
+    maps(s0, s1, root)?;
+    let (mut labels, mut pending) = (Labels::<SMALL_PLACES>::none(), Ring::empty());
+    let mut rooting = Rooting::new(s0, s1, &mut labels, &mut pending);
+    let mut rank = Rank::begin(&WAYS, n, rooting.begin(root as u16));
+    while let Some(item) = rooting.event() {
+        rank.add(item);
+    }
+    rooting.whole()?;
+    Ok(1 + rank.before)
 }
 
-/// The position of a word: how many ways to go on come before it, and 1.
-fn rank(n: usize, word: &[u16]) -> u64 {
-    1 + before(&WAYS, n, word)
+/// For the items of a word so far, what a table has for going on with an event before each.
+pub struct Rank<'a> {
+    table: &'a Table,
+    pending: usize,
+    free: usize,
+    pub before: u64,
 }
 
-/// For each item, what a table has for going on with an event before it.
-#[inline(always)]
-pub fn before(table: &Table, n: usize, word: &[u16]) -> u64 {
-    let (mut h, mut f, mut sum) = match word[0] {
-        0 => (1, n - 1, 0),
-        _ => (3, n - 3, table[1][n - 1]),
-    };
-    for &item in &word[1..] {
-        h -= 1;
+impl<'a> Rank<'a> {
+    #[inline(always)]
+    pub fn begin(table: &'a Table, n: usize, first: u16) -> Self {
+        match first {
+            0 => Rank { table, pending: 1, free: n - 1, before: 0 },
+            _ => Rank { table, pending: 3, free: n - 3, before: table[1][n - 1] },
+        }
+    }
+
+    #[inline(always)]
+    pub fn add(&mut self, item: u16) {
+        let (table, h, f) = (self.table, self.pending - 1, self.free);
         match item {
-            0 => {}
+            0 => self.pending = h,
             1 => {
-                sum += table[h][f];
-                h += 2;
-                f -= 3;
+                self.before += table[h][f];
+                (self.pending, self.free) = (h + 2, f - 3);
             }
             2 => {
-                sum += table[h][f] + forks(table, h, f);
-                f -= 1;
+                self.before += table[h][f] + forks(table, h, f);
+                (self.pending, self.free) = (h, f - 1);
             }
             _ => {
-                sum += table[h][f] + forks(table, h, f) + singles(table, h, f) + (item as u64 - 3) * table[h - 1][f];
-                h -= 1;
+                self.before += table[h][f] + forks(table, h, f) + singles(table, h, f) + (item as u64 - 3) * table[h - 1][f];
+                self.pending = h - 1;
             }
         }
     }
-    sum
+
+    /// Of a whole word.
+    #[inline(always)]
+    pub fn of(table: &'a Table, n: usize, word: &[u16]) -> u64 {
+        let mut rank = Rank::begin(table, n, word[0]);
+        word[1..].iter().for_each(|&item| rank.add(item));
+        rank.before
+    }
 }

@@ -1,5 +1,5 @@
 //! The pending ring: a stack in two arrays of links with a sentinel 0, so that an edge can be taken out wherever it stands. `next` leads
-//! down from the top, `prev` up.
+//! down from the top, `prev` up from the bottom.
 use crate::table::MAX_SIZE;
 
 pub struct Ring {
@@ -8,7 +8,7 @@ pub struct Ring {
 }
 
 impl Ring {
-    #[inline]
+    #[inline(always)]
     pub fn empty() -> Self {
         Ring { next: [0; MAX_SIZE + 1], prev: [0; MAX_SIZE + 1] }
     }
@@ -62,9 +62,27 @@ impl Ring {
         d
     }
 
-    /// What stands d places below the top.
+    /// The same in a ring of so many, looked for from both ends at once.
     #[inline]
-    pub fn at(&self, d: u16) -> u16 {
-        (0..d).fold(self.next[0], |x, _| self.next[x as usize])
+    pub fn depth_from_both(&self, x: u16, height: u16) -> u16 {
+        let (mut down, mut up) = (self.next[0], self.prev[0]);
+        let mut steps = 0;
+        while down != x && up != x {
+            down = self.next[down as usize];
+            up = self.prev[up as usize];
+            steps += 1;
+        }
+        if down == x { steps } else { height - 1 - steps }
+    }
+
+    /// What stands d places below the top of a ring of so many, walked to from the nearer end.
+    #[inline]
+    pub fn at(&self, d: u16, height: u16) -> u16 {
+        let above_bottom = height - 1 - d;
+        if d <= above_bottom {
+            (0..d).fold(self.next[0], |x, _| self.next[x as usize])
+        } else {
+            (0..above_bottom).fold(self.prev[0], |x, _| self.prev[x as usize])
+        }
     }
 }

@@ -1,5 +1,5 @@
 //! A run's step: the run is tested, the word that follows found from the heights alone, in the run's own list, and its diagram written.
-use super::writing::write_diagram;
+use super::drawing::write_diagram;
 use kaldvemir::Run;
 use crate::table::{ends, listed};
 
@@ -82,7 +82,7 @@ pub fn is_word(word: &[u16], n: usize) -> bool {
 
 /// The least event above an item that leads to an end, with the height and the labels free after it. All jumps lead to the same level.
 #[inline]
-fn above(h: usize, f: usize, item: u16) -> Option<(u16, usize, usize)> {
+pub fn above(h: usize, f: usize, item: u16) -> Option<(u16, usize, usize)> {
     let leads = |event| after(h, f, event).filter(|&(h, f)| ends(h, f)).map(|(h, f)| (event, h, f));
     let jump = if item < 3 { 3 } else { item + 1 };
     [1, 2, jump].into_iter().find_map(|event| if event > item { leads(event) } else { None })

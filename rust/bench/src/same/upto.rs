@@ -1,9 +1,9 @@
 //! A step through all sizes up to a bound: the run and its visits are tested, the visits by the table of branches, the word that follows found from
 //! the heights alone, in the run's own list, and its diagram written.
-use super::positions::before;
+use super::drawing::write_diagram;
+use super::positions::Rank;
 use super::run::{after, is_word, start};
-use super::writing::write_diagram;
-use crate::table::{listed, BRANCHES};
+use crate::table::{branches_of, listed, BRANCHES};
 use kaldvemir::{Stepped, UptoRun};
 
 pub fn step(run: &mut UptoRun, s0: &mut [u16], s1: &mut [u16], word: &mut [u16]) -> Result<Option<Stepped>, u16> {
@@ -13,12 +13,21 @@ pub fn step(run: &mut UptoRun, s0: &mut [u16], s1: &mut [u16], word: &mut [u16])
     if run.stage == 2 {
         return Ok(None);
     }
-    let n = run.bound as usize;
-    let Some(Raise { place, event, pending, free }) = following(run) else {
+    let raise = following(run);
+    carry_out(run, raise, s0, s1, word, write_diagram)
+}
+
+/// Moves a run on by a raise of its word, and draws the diagram; without one the run is finished.
+#[inline(always)]
+pub fn carry_out(
+    run: &mut UptoRun, raise: Option<Raise>, s0: &mut [u16], s1: &mut [u16], word: &mut [u16],
+    draw: fn(&[u16], &mut [u16], &mut [u16]),
+) -> Result<Option<Stepped>, u16> {
+    let Some(Raise { place, event, pending, free }) = raise else {
         *run = UptoRun { bound: run.bound, stage: 2, length: 0, items: [0; 51], visits: run.visits };
         return Ok(None);
     };
-    let size = n - free;
+    let size = run.bound as usize - free;
     if s0.len() < size || s1.len() < size || word.len() <= size {
         return Err(9);
     }
@@ -31,7 +40,7 @@ pub fn step(run: &mut UptoRun, s0: &mut [u16], s1: &mut [u16], word: &mut [u16])
     run.visits += (length - 1 - place) as u64;
     let items = &run.items[..length];
     word[..length].copy_from_slice(items);
-    write_diagram(items, s0, s1);
+    draw(items, s0, s1);
     Ok(Some(Stepped { size, length, visits: run.visits }))
 }
 
@@ -45,7 +54,7 @@ fn valid(run: &UptoRun) -> bool {
         && match run.stage {
             0 => word.is_empty() && run.visits == 0,
             1 => is_word_upto(word, n) && run.visits == visits_of(word, n),
-            2 => word.is_empty() && run.visits == all_visits(n),
+            2 => word.is_empty() && run.visits == branches_of(n),
             _ => false,
         }
 }
@@ -62,20 +71,15 @@ fn is_word_upto(word: &[u16], n: usize) -> bool {
 
 /// The branch visits at a word: the beginnings that come before it, of which its own are one for each item but the last.
 pub fn visits_of(word: &[u16], n: usize) -> u64 {
-    before(&BRANCHES, n, word) + (word.len() - 1) as u64
-}
-
-/// The branch visits at the last word.
-fn all_visits(n: usize) -> u64 {
-    BRANCHES[1][n - 1] + if n >= 3 { BRANCHES[3][n - 3] } else { 0 }
+    Rank::of(&BRANCHES, n, word) + (word.len() - 1) as u64
 }
 
 /// An item that is raised, and how many labels are pending and free after it.
-struct Raise {
-    place: usize,
-    event: u16,
-    pending: usize,
-    free: usize,
+pub struct Raise {
+    pub place: usize,
+    pub event: u16,
+    pub pending: usize,
+    pub free: usize,
 }
 
 /// The least event above an item that can be read, as a raise of that item. Every word can be ended from there.

@@ -242,7 +242,23 @@ impl<'a, M: Marks, const N: usize> Rooting<'a, M, N> {
     /// Whether no other rooting's word comes before own, the word of `root`.
     #[inline(always)]
     pub fn least(&mut self, root: u16, own: &[u16]) -> bool {
-        (1..=self.s0.len() as u16).all(|x| x == root || !self.precedes(x, own))
+        self.least_among(root, own, |_| true)
+    }
+
+    /// The same with an early test. U comes before T: a word that begins with T is not the least where s0 fixes some edge, and before one that begins with
+    /// U only words of rootings that s0 fixes can come.
+    #[inline(always)]
+    pub fn least_tested(&mut self, root: u16, own: &[u16]) -> bool {
+        let s0 = self.s0;
+        if own[0] == 0 {
+            return self.least_among(root, own, |x| next(s0, x) == x);
+        }
+        !s0.iter().zip(1..).any(|(&x, i)| x == i) && self.least(root, own)
+    }
+
+    #[inline(always)]
+    fn least_among(&mut self, root: u16, own: &[u16], tried: impl Fn(u16) -> bool) -> bool {
+        (1..=self.s0.len() as u16).all(|x| x == root || !tried(x) || !self.precedes(x, own))
     }
 }
 

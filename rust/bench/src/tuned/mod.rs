@@ -10,6 +10,7 @@ pub mod positions;
 pub mod reading;
 pub mod run;
 pub mod spelling;
+pub mod upto;
 
 /// Diagrams up to this size get scratch lists of this size.
 pub const SMALL: usize = 64;
