@@ -1,13 +1,14 @@
-//! Before anything is timed, the library and both baselines are given some thousands of the same inputs, good and damaged, and must
+//! Before anything is timed, the library and the baselines are given some thousands of the same inputs, good and damaged, and must
 //! give the same answers, the same lists and the same runs and books.
 use crate::blocks;
-use crate::generator::{generate, kept_known};
+use crate::generator::{generate, kept_known, kept_tested};
 use crate::lines::Page;
 use crate::random::{Diagram, Random};
 use kaldvemir::{Book, Run, UptoRun, CELL};
 use crate::rows::{books::opened, census, given::words, listing, sheets as pages, whole};
+use crate::same::labelling::{Tracer, SMALL_PLACES};
 use crate::table::count_of;
-use crate::{letters, library, same, tuned};
+use crate::{letters, library, same, timing, tuned};
 use std::fmt::Debug;
 
 pub fn all() {
@@ -64,15 +65,19 @@ fn damage(random: &mut Random, d: &mut Diagram) {
         2 => d.root = [0, n + 1, u64::MAX][random.below(3) as usize],
         3 => d.s0.truncate(at),
         4 => d.s1.truncate(at),
-        5 => {
-            // a second component
-            let m = d.s0.len() as u16;
-            d.s0.push(m + 1);
-            d.s1.push(m + 1);
-        }
+        5 => second_component(random, d),
         6 => d.s0.swap(at, 0),
         _ => d.s1.swap(at, 0),
     }
+}
+
+/// Another diagram beside it, with which it is not connected: of one edge, or of some.
+fn second_component(random: &mut Random, d: &mut Diagram) {
+    let shift = d.s0.len() as u16;
+    let size = [1, 1 + random.below(40) as usize][random.below(2) as usize];
+    let other = random.diagram(size);
+    d.s0.extend(other.s0.iter().map(|x| x + shift));
+    d.s1.extend(other.s1.iter().map(|x| x + shift));
 }
 
 fn given(random: &mut Random) {
@@ -80,8 +85,10 @@ fn given(random: &mut Random) {
         let most = if i % 20 == 0 { 1024 } else { 70 };
         let n = 1 + random.below(most) as usize;
         let mut d = random.diagram(n);
-        if i % 3 == 0 {
-            damage(random, &mut d);
+        match i % 6 {
+            0 | 3 => damage(random, &mut d),
+            1 => second_component(random, &mut d),
+            _ => {}
         }
         let Diagram { s0, s1, root } = &d;
         let by_library = library::check(s0, s1, *root);
@@ -190,7 +197,7 @@ fn run_step(random: &mut Random, start: &Run, out: usize) -> Run {
 }
 
 fn upto_step(random: &mut Random, start: &UptoRun, out: usize) -> UptoRun {
-    one_step(random, start, out, library::upto_step, &[same::upto::step])
+    one_step(random, start, out, library::upto_step, &[same::upto::step, tuned::upto::step])
 }
 
 fn runs(random: &mut Random) {
@@ -301,17 +308,20 @@ fn sheets(random: &mut Random) {
         let sheet = any_sheet(random, cells);
         let mut room = || cells.saturating_sub((random.below(16) == 0) as usize) + random.below(3) as usize;
         let lists = (vec![7; room()], vec![7; room()]);
+        let (mut a, mut b) = lists.clone();
+        let by_library = (library::sheet_positions(&sheet, &mut a, &mut b), a, b);
         for (read, position) in sides {
-            let ((mut a, mut b), (mut c, mut d)) = (lists.clone(), lists.clone());
-            let (x, y) = (library::sheet_positions(&sheet, &mut a, &mut b), sheet_by(read, position, &sheet, &mut c, &mut d));
-            equal("sheet", (x, a, b), (y, c, d));
+            let (mut a, mut b) = lists.clone();
+            equal("sheet", &by_library, &(sheet_by(read, position, &sheet, &mut a, &mut b), a, b));
         }
+        let (mut a, mut b) = lists;
+        equal("sheet", &by_library, &(same::sheets::sheet_positions(&sheet, &mut a, &mut b), a, b));
     }
 }
 
 fn spoil(random: &mut Random, book: &mut Book) {
     let at = random.below(32) as usize;
-    match random.below(8) {
+    match random.below(10) {
         0 => book.size = random.below(53),
         1 => book.shares = random.below(35),
         2 => book.latest = [1 << 48, (1 << 48) - 1, 0][random.below(3) as usize],
@@ -319,8 +329,20 @@ fn spoil(random: &mut Random, book: &mut Book) {
         4 => book.next[at] = random.below(30),
         5 => book.ticket[at] = book.ticket[random.below(32) as usize],
         6 => book.ticket[at] = random.below(10),
+        7 | 8 => clash(random, book),
         _ => book.expiry[at] = random.below(70_000),
     }
+}
+
+/// Tickets that are equal modulo 64 at the shares that are not finished; now and then two are equal.
+fn clash(random: &mut Random, book: &mut Book) {
+    let first = 1 + random.below(64);
+    let open = (0..book.shares as usize).filter(|&i| book.next[i] <= (i as u64 + 1) * count_of(book.size as usize) / book.shares);
+    for (far, i) in open.collect::<Vec<_>>().into_iter().enumerate() {
+        let far = far as u64 - (far > 0 && random.below(40) == 0) as u64;
+        book.ticket[i] = first + 64 * far;
+    }
+    book.issued = first + 64 * 32;
 }
 
 /// The calls of one side.
@@ -397,14 +419,20 @@ fn lists() {
 
 fn lists_in_blocks() {
     for size in 1..=14usize {
-        let (mut plain, mut marked, mut generated) = (vec![], vec![], vec![]);
+        let (mut plain, mut marked, mut listed, mut generated) = (vec![], vec![], vec![], vec![]);
         blocks::list(size, library::list, |block, given| {
             block.each(given, |s0, s1, word, _| plain.push((s0.to_vec(), s1.to_vec(), word.to_vec())));
         });
         blocks::list(size, library::list_marked, |block, given| {
             block.each(given, |s0, s1, word, keep| marked.push((s0.to_vec(), s1.to_vec(), word.to_vec(), keep)));
         });
-        generate(size, |s0, s1, word| generated.push((s0.to_vec(), s1.to_vec(), word.to_vec(), kept_known(s0, s1, word))));
+        let mut tracer = Tracer::<SMALL_PLACES>::new();
+        same::lister::list(size, |s0, s1, word| listed.push((s0.to_vec(), s1.to_vec(), word.to_vec(), tracer.least(s0, s1, 1, word))));
+        generate(size, |s0, s1, word| {
+            equal("keep mark with the early test", kept_known(s0, s1, word), kept_tested(s0, s1, word));
+            generated.push((s0.to_vec(), s1.to_vec(), word.to_vec(), kept_known(s0, s1, word)));
+        });
+        equal("whole list in blocks with keep marks", &marked, &listed);
         equal("whole list in blocks with keep marks", &marked, &generated);
         equal("whole list in blocks", plain, generated.into_iter().map(|(s0, s1, word, _)| (s0, s1, word)).collect());
     }
@@ -412,22 +440,33 @@ fn lists_in_blocks() {
 
 /// The sums that whole lists are timed with.
 fn sums() {
-    equal("whole list", whole::by_blocks(13), whole::by_generator(13));
-    equal("whole list by steps", whole::by_steps(13), whole::by_generator(13));
-    equal("whole list with keep marks", whole::marked_by_blocks(13), whole::marked_by_generator(13));
-    equal("whole list with keep marks by steps", whole::marked_by_steps(13), whole::marked_by_generator(13));
+    for (name, mut row) in [
+        ("whole list", whole::list(13)),
+        ("whole list with keep marks", whole::marked(13)),
+        ("whole list by steps", whole::list_by_steps(13)),
+        ("whole list with keep marks by steps", whole::marked_by_steps(13)),
+    ] {
+        timing::round(name, &mut row, 1);
+    }
 }
 
 fn censuses() {
     for size in [1, 2, 3, 4, 9, 13] {
         let page = || Page::new(Some(Vec::new()));
-        let (mut a, mut b, mut c, mut d, mut e) = (page(), page(), page(), page(), page());
-        let kept = census::by_blocks(size, &mut a);
-        equal("census", kept, census::by_steps(&census::LIBRARY, size, &mut b));
-        equal("census", kept, census::by_steps(&census::SAME, size, &mut c));
-        equal("census", kept, census::by_generator(size, &mut d));
-        equal("census", kept, census::by_rows(size, &mut e));
-        let [a, others @ ..] = [a, b, c, d, e].map(|page| page.kept.map(String::from_utf8));
-        others.iter().for_each(|other| equal("census", &a, other));
+        let written = |write: &dyn Fn(&mut Page) -> u64| {
+            let mut page = page();
+            (write(&mut page), page.kept.map(String::from_utf8))
+        };
+        let by_library = written(&|page| census::by_blocks(size, page));
+        let others: [&dyn Fn(&mut Page) -> u64; 7] = [
+            &|page| census::by_rows(size, page),
+            &|page| census::by_lister(size, page),
+            &|page| census::by_generator(size, page, kept_known),
+            &|page| census::by_generator(size, page, kept_tested),
+            &|page| census::by_steps(&census::LIBRARY, size, page),
+            &|page| census::by_steps(&census::SAME, size, page),
+            &|page| census::by_steps(&census::TUNED, size, page),
+        ];
+        others.iter().for_each(|other| equal("census", &by_library, &written(other)));
     }
 }

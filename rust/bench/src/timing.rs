@@ -5,14 +5,36 @@ use std::time::Duration;
 /// A piece of work, which returns a sum over its answers.
 pub type Work = Box<dyn FnMut() -> u64>;
 
+/// What a row compares the library with: plain Rust by the same method, plain Rust tuned by methods of its own, or something else, which is Vidal's
+/// generator or, in a row "A to B", B.
+#[derive(Clone, Copy, PartialEq, Debug)]
+pub enum Column {
+    Same,
+    Tuned,
+    Other,
+}
+
 pub struct Row {
-    pub name: &'static str,
     /// How many calls a piece of work makes.
-    pub calls: u64,
-    /// The most that the library's time may be, as a multiple of the baseline's; none where the row is for information.
-    pub bar: Option<f64>,
-    /// The library, the baseline that the bar is set by and, if there is one, the tuned one.
-    pub sides: Vec<Work>,
+    calls: u64,
+    library: Work,
+    baselines: Vec<(Column, Work)>,
+}
+
+impl Row {
+    pub fn new(calls: u64, library: impl FnMut() -> u64 + 'static) -> Row {
+        Row { calls, library: Box::new(library), baselines: vec![] }
+    }
+
+    /// The row with a baseline.
+    pub fn beside(mut self, column: Column, baseline: impl FnMut() -> u64 + 'static) -> Row {
+        self.baselines.push((column, Box::new(baseline)));
+        self
+    }
+
+    fn sides(&mut self) -> impl Iterator<Item = &mut Work> {
+        std::iter::once(&mut self.library).chain(self.baselines.iter_mut().map(|(_, work)| work))
+    }
 }
 
 pub struct Plan {
@@ -20,8 +42,11 @@ pub struct Plan {
     pub least: Duration,
 }
 
-/// For each side the calls' times in nanoseconds, of every repeat.
-pub type Times = Vec<Vec<f64>>;
+/// The nanoseconds of a call, each the median of the repeats.
+pub struct Times {
+    pub library: f64,
+    pub baselines: Vec<(Column, f64)>,
+}
 
 #[repr(C)]
 struct Timespec {
@@ -66,50 +91,22 @@ fn rounds(work: &mut Work, least: Duration) -> u64 {
 }
 
 /// Runs every side and returns the times, once it is seen that they answer alike.
-fn round(row: &mut Row, rounds: u64) -> Vec<f64> {
-    let results: Vec<(Duration, u64)> = row.sides.iter_mut().map(|side| time(side, rounds)).collect();
-    assert!(results.iter().all(|r| r.1 == results[0].1), "{}: the library and plain Rust answer differently", row.name);
+pub fn round(name: &str, row: &mut Row, rounds: u64) -> Vec<f64> {
+    let results: Vec<(Duration, u64)> = row.sides().map(|side| time(side, rounds)).collect();
+    assert!(results.iter().all(|r| r.1 == results[0].1), "{name}: the library and plain Rust answer differently");
     results.iter().map(|r| r.0.as_nanos() as f64 / (rounds * row.calls) as f64).collect()
 }
 
-pub fn measure(row: &mut Row, plan: &Plan) -> Times {
-    round(row, 1);
-    let rounds = row.sides.iter_mut().map(|side| rounds(side, plan.least)).max().expect("a row has sides");
-    let repeats: Vec<Vec<f64>> = (0..plan.repeats).map(|_| round(row, rounds)).collect();
-    (0..row.sides.len()).map(|side| repeats.iter().map(|r| r[side]).collect()).collect()
+pub fn measure(name: &str, row: &mut Row, plan: &Plan) -> Times {
+    round(name, row, 1);
+    let rounds = row.sides().map(|side| rounds(side, plan.least)).max().expect("a row has sides");
+    let repeats: Vec<Vec<f64>> = (0..plan.repeats).map(|_| round(name, row, rounds)).collect();
+    let median = |side: usize| median(repeats.iter().map(|r| r[side]).collect());
+    let baselines = row.baselines.iter().zip(1..).map(|((column, _), side)| (*column, median(side))).collect();
+    Times { library: median(0), baselines }
 }
 
-fn sorted(mut list: Vec<f64>) -> Vec<f64> {
+fn median(mut list: Vec<f64>) -> f64 {
     list.sort_by(f64::total_cmp);
-    list
-}
-
-fn median(list: &[f64]) -> f64 {
-    sorted(list.to_vec())[list.len() / 2]
-}
-
-pub fn print_header() {
-    println!(
-        "{:<32} {:>11} {:>11} {:>6} {:>12} {:>4} {:<6} {:>11} {:>6}",
-        "operation", "library ns", "baseline", "ratio", "least..most", "bar", "", "tuned", "ratio"
-    );
-}
-
-/// Prints the row and returns whether its bar, if it has one, is met: the ratio of the medians, and the least and the greatest ratio of a repeat.
-pub fn print(row: &Row, times: &Times) -> bool {
-    let (library, baseline) = (median(&times[0]), median(&times[1]));
-    let ratio = library / baseline;
-    let ratios = sorted(times[0].iter().zip(&times[1]).map(|(a, b)| a / b).collect());
-    let spread = format!("{:.2}..{:.2}", ratios[0], ratios[ratios.len() - 1]);
-    let met = row.bar.is_none_or(|bar| ratio <= bar);
-    let (bar, verdict) = match row.bar {
-        Some(bar) => (bar.to_string(), if met { "met" } else { "MISSED" }),
-        None => ("-".to_string(), ""),
-    };
-    print!("{:<32} {library:>11.1} {baseline:>11.1} {ratio:>6.2} {spread:>12} {bar:>4} {verdict:<6}", row.name);
-    match times.get(2).map(|t| median(t)) {
-        Some(tuned) => println!(" {tuned:>11.1} {:>6.2}", library / tuned),
-        None => println!(),
-    }
-    met
+    list[list.len() / 2]
 }

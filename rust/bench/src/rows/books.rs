@@ -24,7 +24,7 @@ pub fn opened(size: u64, shares: u64) -> Book {
 }
 
 /// A book whose shares 1, 2, .. have the tickets 1, 2, ..
-fn claimed(shares: u64) -> Book {
+pub fn claimed(shares: u64) -> Book {
     let mut book = opened(24, shares);
     for share in 1..=shares {
         library::claim(&mut book, 1, share, 60_000).unwrap();
@@ -32,24 +32,44 @@ fn claimed(shares: u64) -> Book {
     book
 }
 
-/// Each share is claimed again at the tick at which its ticket has just lapsed.
-fn claim(name: &'static str, shares: u64) -> Row {
-    let start = opened(24, shares);
+/// A book of 32 shares whose tickets differ and are all equal modulo 64, as old tickets that still stand may be.
+pub fn clashing() -> Book {
+    let mut book = claimed(32);
+    for (i, ticket) in (0..).zip(&mut book.ticket) {
+        *ticket = 1 + 64 * i;
+    }
+    book.issued = book.ticket[31];
+    book
+}
+
+/// Claims of the shares up to some number in turn, each at the tick at which its ticket has just lapsed.
+fn claims(start: Book, shares: u64) -> Row {
     let work = |f: Claim| {
         let start = start.clone();
         move || {
             let mut book = start.clone();
-            for tick in 0..CALLS {
-                black_box(f(black_box(&mut book), tick, tick % shares + 1, shares).unwrap());
+            let first = book.latest;
+            for i in 0..CALLS {
+                black_box(f(black_box(&mut book), first + i, i % shares + 1, shares).unwrap());
             }
             book.issued + book.expiry[0]
         }
     };
-    row(name, CALLS, work(library::claim), work(same::book::claim), work(tuned::book::claim))
+    row(CALLS, work(library::claim), work(same::book::claim), work(tuned::book::claim))
 }
 
-fn take(name: &'static str, shares: u64) -> Row {
-    let start = claimed(shares);
+pub fn claim(shares: u64) -> Row {
+    claims(opened(24, shares), shares)
+}
+
+/// Share 1 is claimed again and again, while the tickets of the others clash.
+pub fn claim_clashing() -> Row {
+    let mut book = clashing();
+    (book.ticket[0], book.expiry[0]) = (0, 0);
+    claims(book, 1)
+}
+
+pub fn take(start: Book) -> Row {
     let work = |f: Take| {
         let start = start.clone();
         let (mut s0, mut s1, mut word) = ([0; 24], [0; 24], [0; 25]);
@@ -57,30 +77,30 @@ fn take(name: &'static str, shares: u64) -> Row {
             let mut book = start.clone();
             let mut sum = 0;
             for i in 0..CALLS {
-                let taken = f(black_box(&mut book), 2 + i, i % shares + 1, &mut s0, &mut s1, &mut word).unwrap();
+                let ticket = book.ticket[(i % book.shares) as usize];
+                let taken = f(black_box(&mut book), 2 + i, ticket, &mut s0, &mut s1, &mut word).unwrap();
                 sum += taken.share + taken.position + taken.length as u64 + black_box(&s1)[12] as u64;
             }
             sum
         }
     };
-    row(name, CALLS, work(library::take), work(same::book::take), work(tuned::book::take))
+    row(CALLS, work(library::take), work(same::book::take), work(tuned::book::take))
 }
 
-fn commit(name: &'static str, shares: u64) -> Row {
-    let start = claimed(shares);
+pub fn commit(start: Book) -> Row {
     let work = |f: Commit| {
         let start = start.clone();
         move || {
             let mut book = start.clone();
             for i in 0..CALLS {
-                let at = (i % shares) as usize;
-                let position = book.next[at];
-                f(black_box(&mut book), 2 + i, at as u64 + 1, position).unwrap();
+                let at = (i % book.shares) as usize;
+                let (ticket, position) = (book.ticket[at], book.next[at]);
+                f(black_box(&mut book), 2 + i, ticket, position).unwrap();
             }
             book.next.iter().sum::<u64>() + book.latest
         }
     };
-    row(name, CALLS, work(library::commit), work(same::book::commit), work(tuned::book::commit))
+    row(CALLS, work(library::commit), work(same::book::commit), work(tuned::book::commit))
 }
 
 /// A thousand positions of a share, of each share in turn, by what commits the positions first to last.
@@ -97,39 +117,13 @@ fn thousands<F: Fn(&mut Book, u64, u64, u64, u64) + 'static>(each: F) -> impl Fn
     }
 }
 
-/// The time is that of the thousand. There is no bar: the row beside it is the same work by single commits.
+/// The time is that of the thousand; the row beside it is the same work by single commits.
 pub fn thousand_in_one_call() -> Row {
     let work = |f: CommitRange| thousands(move |book, tick, ticket, first, last| f(book, tick, ticket, first, last).unwrap());
-    let row = row("1,000 commits in one call", RANGES, work(library::commit_range), work(same::book::commit_range), work(tuned::book::commit_range));
-    Row { bar: None, ..row }
+    row(RANGES, work(library::commit_range), work(same::book::commit_range), work(tuned::book::commit_range))
 }
 
 pub fn thousand_one_by_one() -> Row {
     let work = |f: Commit| thousands(move |book, tick, ticket, first, last| (first..=last).for_each(|position| f(book, tick, ticket, position).unwrap()));
-    let row = row("1,000 commits one by one", RANGES, work(library::commit), work(same::book::commit), work(tuned::book::commit));
-    Row { bar: None, ..row }
-}
-
-pub fn claim_32() -> Row {
-    claim("claim 24, 32 shares", 32)
-}
-
-pub fn take_32() -> Row {
-    take("take 24, 32 shares", 32)
-}
-
-pub fn commit_32() -> Row {
-    commit("commit 24, 32 shares", 32)
-}
-
-pub fn claim_4() -> Row {
-    claim("claim 24, 4 shares", 4)
-}
-
-pub fn take_4() -> Row {
-    take("take 24, 4 shares", 4)
-}
-
-pub fn commit_4() -> Row {
-    commit("commit 24, 4 shares", 4)
+    row(RANGES, work(library::commit), work(same::book::commit), work(tuned::book::commit))
 }

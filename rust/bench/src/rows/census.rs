@@ -1,45 +1,110 @@
 //! The census. The letters, the invariants and the keep mark of a line are each side's own; the rest of the line is written by the code that
-//! all sides share. The library lists in blocks with keep marks, while the baseline of the same method goes by single steps and asks whether each
-//! diagram is kept; the row by steps has the library do the same. In the row of whole rows the library writes all of the text, beside the generator.
+//! all sides share. The library lists in blocks with keep marks; in the row by steps every side goes by single steps and asks whether each diagram is
+//! kept. In the row of whole rows the library writes all of the text.
+use super::whole::{Kept, Step};
 use crate::blocks;
-use crate::generator::{generate, kept_known};
-use kaldvemir::Invariants;
+use crate::generator::{generate, kept_known, kept_tested};
 use crate::lines::Page;
-use kaldvemir::Run;
+use crate::same::labelling::{Tracer, SMALL_PLACES};
 use crate::table::count_of;
-use crate::timing::{Row, Work};
+use crate::timing::{Column, Row};
 use crate::{letters, library, same, tuned};
+use kaldvemir::{Invariants, Run};
+
+type Letters = fn(&[u16], &mut [u8]) -> Result<usize, u16>;
+type Measure = fn(&[u16], &[u16], u64) -> Result<Invariants, u16>;
 
 /// What a census by steps is made of.
 pub struct Parts {
-    step: fn(&mut Run, &mut [u16], &mut [u16], &mut [u16]) -> Result<usize, u16>,
-    letters: fn(&[u16], &mut [u8]) -> Result<usize, u16>,
-    invariants: fn(&[u16], &[u16], u64) -> Result<Invariants, u16>,
-    kept: fn(&[u16], &[u16], u64) -> Result<bool, u16>,
+    step: Step,
+    letters: Letters,
+    invariants: Measure,
+    kept: Kept,
 }
 
 pub const LIBRARY: Parts =
     Parts { step: library::step, letters: library::letters, invariants: library::invariants, kept: library::kept };
 pub const SAME: Parts =
     Parts { step: same::run::step, letters: letters::letters, invariants: same::invariants::invariants, kept: same::labelling::kept };
+pub const TUNED: Parts =
+    Parts { step: tuned::run::step, letters: letters::letters, invariants: tuned::invariants::invariants, kept: tuned::labelling::kept };
 
-/// Returns how many diagrams are kept.
+/// The lines written so far on a page, of which some are of kept diagrams.
+struct Lines<'a> {
+    page: &'a mut Page,
+    listed: u64,
+    kept: u64,
+}
+
+impl<'a> Lines<'a> {
+    fn on(page: &'a mut Page) -> Self {
+        Lines { page, listed: 0, kept: 0 }
+    }
+
+    #[inline(always)]
+    fn add(&mut self, s0: &[u16], s1: &[u16], word: &[u16], letters: Letters, numbers: &Invariants, keep: bool) {
+        self.listed += 1;
+        self.kept += keep as u64;
+        self.page.number(self.listed);
+        self.page.byte(b' ');
+        self.page.at += letters(word, &mut self.page.bytes[self.page.at..]).unwrap();
+        self.page.rest(s0, s1, numbers, keep);
+        self.page.turn();
+    }
+
+    /// Returns how many diagrams are kept.
+    fn finish(self) -> u64 {
+        self.page.flush();
+        self.kept
+    }
+}
+
 pub fn by_blocks(size: usize, page: &mut Page) -> u64 {
-    let mut listed = 0;
-    let mut kept = 0;
-    let mut line = |s0: &[u16], s1: &[u16], word: &[u16], keep| {
-        listed += 1;
-        page.number(listed);
-        page.byte(b' ');
-        page.at += library::letters(word, &mut page.bytes[page.at..]).unwrap();
-        let numbers = library::invariants(s0, s1, 1).unwrap();
-        kept += keep as u64;
-        page.rest(s0, s1, &numbers, keep);
-        page.turn();
-    };
-    blocks::list(size, library::list_marked, |block, given| block.each(given, &mut line));
-    page.flush();
-    kept
+    let mut lines = Lines::on(page);
+    blocks::list(size, library::list_marked, |block, given| {
+        block.each(given, |s0, s1, word, keep| {
+            let numbers = library::invariants(s0, s1, 1).unwrap();
+            lines.add(s0, s1, word, library::letters, &numbers, keep);
+        })
+    });
+    lines.finish()
+}
+
+/// The same by the library's methods.
+pub fn by_lister(size: usize, page: &mut Page) -> u64 {
+    let mut lines = Lines::on(page);
+    let mut tracer = Tracer::<SMALL_PLACES>::new();
+    same::lister::list(size, |s0, s1, word| {
+        let numbers = same::invariants::invariants(s0, s1, 1).unwrap();
+        lines.add(s0, s1, word, letters::letters, &numbers, tracer.least(s0, s1, 1, word));
+    });
+    lines.finish()
+}
+
+/// The same from the lists that the generator writes. What it generated it does not check again.
+pub fn by_generator(size: usize, page: &mut Page, mark: impl Fn(&[u16], &[u16], &[u16]) -> bool) -> u64 {
+    let mut lines = Lines::on(page);
+    generate(size, |s0, s1, word| {
+        let numbers = tuned::invariants::measure(s0, s1);
+        lines.add(s0, s1, word, letters::letters, &numbers, mark(s0, s1, word));
+    });
+    lines.finish()
+}
+
+/// The same by single steps.
+pub fn by_steps(parts: &Parts, size: usize, page: &mut Page) -> u64 {
+    let mut run = Run { size: size as u16, stage: 0, length: 0, items: [0; 51] };
+    let (mut s0, mut s1, mut word) = (vec![0; size], vec![0; size], vec![0; size + 1]);
+    let mut lines = Lines::on(page);
+    loop {
+        let length = (parts.step)(&mut run, &mut s0, &mut s1, &mut word).unwrap();
+        if length == 0 {
+            return lines.finish();
+        }
+        let numbers = (parts.invariants)(&s0, &s1, 1).unwrap();
+        let keep = (parts.kept)(&s0, &s1, 1).unwrap();
+        lines.add(&s0, &s1, &word[..length], parts.letters, &numbers, keep);
+    }
 }
 
 /// How many rows the library is asked for at a time.
@@ -60,71 +125,31 @@ pub fn by_rows(size: usize, page: &mut Page) -> u64 {
     }
 }
 
-/// The same by single steps.
-pub fn by_steps(parts: &Parts, size: usize, page: &mut Page) -> u64 {
-    let mut run = Run { size: size as u16, stage: 0, length: 0, items: [0; 51] };
-    let (mut s0, mut s1, mut word) = (vec![0; size], vec![0; size], vec![0; size + 1]);
-    let mut listed = 0;
-    let mut kept = 0;
-    loop {
-        let length = (parts.step)(&mut run, &mut s0, &mut s1, &mut word).unwrap();
-        if length == 0 {
-            break;
-        }
-        listed += 1;
-        page.number(listed);
-        page.byte(b' ');
-        page.at += (parts.letters)(&word[..length], &mut page.bytes[page.at..]).unwrap();
-        let numbers = (parts.invariants)(&s0, &s1, 1).unwrap();
-        let keep = (parts.kept)(&s0, &s1, 1).unwrap();
-        kept += keep as u64;
-        page.rest(&s0, &s1, &numbers, keep);
-        page.turn();
-    }
-    page.flush();
-    kept
+/// A side that writes on a page of its own.
+fn on_page(write: impl Fn(&mut Page) -> u64) -> impl FnMut() -> u64 {
+    let mut page = Page::new(None);
+    move || write(&mut page)
 }
 
-/// The same from the lists that the generator writes. What it generated it does not check again.
-pub fn by_generator(size: usize, page: &mut Page) -> u64 {
-    let mut listed = 0;
-    let mut kept = 0;
-    generate(size, |s0, s1, word| {
-        listed += 1;
-        page.number(listed);
-        page.byte(b' ');
-        page.at += letters::letters(word, &mut page.bytes[page.at..]).unwrap();
-        let numbers = tuned::invariants::measure(s0, s1);
-        let keep = kept_known(s0, s1, word);
-        kept += keep as u64;
-        page.rest(s0, s1, &numbers, keep);
-        page.turn();
-    });
-    page.flush();
-    kept
+/// Something of the library beside the lines of the list by its methods, and those of the generator with the early test and without.
+fn beside_lists(size: usize, library: fn(usize, &mut Page) -> u64) -> Row {
+    Row::new(count_of(size), on_page(move |page| library(size, page)))
+        .beside(Column::Same, on_page(move |page| by_lister(size, page)))
+        .beside(Column::Tuned, on_page(move |page| by_generator(size, page, kept_tested)))
+        .beside(Column::Other, on_page(move |page| by_generator(size, page, kept_known)))
 }
 
-fn row(name: &'static str, bar: Option<f64>, library: fn(&mut Page) -> u64) -> Row {
-    let (mut a, mut b, mut c) = (Page::new(None), Page::new(None), Page::new(None));
-    let sides: Vec<Work> = vec![
-        Box::new(move || library(&mut a)),
-        Box::new(move || by_steps(&SAME, 20, &mut b)),
-        Box::new(move || by_generator(20, &mut c)),
-    ];
-    Row { name, calls: count_of(20), bar, sides }
+pub fn lines(size: usize) -> Row {
+    beside_lists(size, by_blocks)
 }
 
-/// The text of a whole list, beside the generator alone.
-pub fn whole_rows() -> Row {
-    let (mut a, mut b) = (Page::new(None), Page::new(None));
-    let sides: Vec<Work> = vec![Box::new(move || by_rows(20, &mut a)), Box::new(move || by_generator(20, &mut b))];
-    Row { name: "rows of size 20", calls: count_of(20), bar: Some(2.0), sides }
+/// The text of a whole list.
+pub fn text(size: usize) -> Row {
+    beside_lists(size, by_rows)
 }
 
-pub fn census() -> Row {
-    row("census line 20", Some(1.5), |page| by_blocks(20, page))
-}
-
-pub fn census_by_steps() -> Row {
-    row("census line 20 by steps", None, |page| by_steps(&LIBRARY, 20, page))
+pub fn lines_by_steps(size: usize) -> Row {
+    let by = |parts: &'static Parts| on_page(move |page| by_steps(parts, size, page));
+    super::row(count_of(size), by(&LIBRARY), by(&SAME), by(&TUNED))
+        .beside(Column::Other, on_page(move |page| by_generator(size, page, kept_known)))
 }

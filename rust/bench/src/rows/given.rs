@@ -39,7 +39,7 @@ pub fn check() -> Row {
         let inputs = inputs.clone();
         move || inputs.iter().map(|d| f(black_box(&d.s0), &d.s1, d.root).is_ok() as u64).sum()
     };
-    row("check 1024", 64, work(library::check), work(same::check::check), work(tuned::check::check))
+    row(64, work(library::check), work(same::check::check), work(tuned::check::check))
 }
 
 /// Diagrams of some 650 edges with up to 18 cycles.
@@ -50,10 +50,10 @@ pub fn invariants() -> Row {
         let inputs = inputs.clone();
         move || inputs.iter().map(|d| f(black_box(&d.s0), &d.s1, d.root).map_or(0, |x| x.level >> 16)).sum()
     };
-    row("invariants, level about 2^64", 64, work(library::invariants), work(same::invariants::invariants), work(tuned::invariants::invariants))
+    row(64, work(library::invariants), work(same::invariants::invariants), work(tuned::invariants::invariants))
 }
 
-fn relabel(name: &'static str, inputs: Rc<Vec<Diagram>>) -> Row {
+pub fn relabel(inputs: Rc<Vec<Diagram>>) -> Row {
     let n = inputs[0].s0.len();
     let work = |f: Relabel| {
         let inputs = inputs.clone();
@@ -68,15 +68,7 @@ fn relabel(name: &'static str, inputs: Rc<Vec<Diagram>>) -> Row {
         }
     };
     let calls = inputs.len() as u64;
-    row(name, calls, work(library::relabel), work(same::labelling::relabel), work(tuned::labelling::relabel))
-}
-
-pub fn relabel_large() -> Row {
-    relabel("relabel 1024", large(64))
-}
-
-pub fn relabel_listed() -> Row {
-    relabel("relabel 50", listed(1000))
+    row(calls, work(library::relabel), work(same::labelling::relabel), work(tuned::labelling::relabel))
 }
 
 pub fn words(inputs: &[Diagram]) -> Vec<Vec<u16>> {
@@ -104,5 +96,5 @@ pub fn read_word() -> Row {
             sum as u64
         }
     };
-    row("read word 1024", 64, work(library::read_word), work(same::reading::read_word), work(tuned::reading::read_word))
+    row(64, work(library::read_word), work(same::reading::read_word), work(tuned::reading::read_word))
 }

@@ -1,14 +1,19 @@
-//! Whole lists, beside Vidal's generator, whose lists are copied out as the library writes them. The library lists in blocks; by single steps,
-//! which test the run anew each time, for information.
+//! Whole lists. The library lists in blocks; its baselines copy each diagram out as the library writes it. By single steps, which test the run anew
+//! each time, for information.
 use crate::blocks;
-use crate::generator::{generate, kept_known};
-use crate::library;
+use crate::generator::{generate, kept_known, kept_tested};
+use crate::same::labelling::{Tracer, SMALL_PLACES};
 use crate::table::count_of;
-use crate::timing::{Row, Work};
+use crate::timing::{Column, Row};
+use crate::{library, same, tuned};
+use kaldvemir::Run;
 use std::hint::black_box;
 
 /// Lists a size and returns a sum over its diagrams: `seen` of each in a plain list, and the number of those kept in a marked one.
 type Lister = fn(usize) -> u64;
+
+pub type Step = fn(&mut Run, &mut [u16], &mut [u16], &mut [u16]) -> Result<usize, u16>;
+pub type Kept = fn(&[u16], &[u16], u64) -> Result<bool, u16>;
 
 /// What a plain list sums: that every list was written.
 #[inline(always)]
@@ -28,11 +33,13 @@ impl Outputs {
         Outputs { s0: vec![0; size], s1: vec![0; size], word: vec![0; size + 1] }
     }
 
+    /// Writes a diagram and returns what a plain list sums of it.
     #[inline(always)]
-    fn copy(&mut self, s0: &[u16], s1: &[u16], word: &[u16]) {
+    fn copy(&mut self, s0: &[u16], s1: &[u16], word: &[u16]) -> u64 {
         self.s0.copy_from_slice(s0);
         self.s1.copy_from_slice(s1);
         self.word[..word.len()].copy_from_slice(word);
+        seen(&self.s0, &self.s1, &self.word[..word.len()])
     }
 }
 
@@ -42,26 +49,15 @@ pub fn by_blocks(size: usize) -> u64 {
     sum
 }
 
-pub fn by_steps(size: usize) -> u64 {
-    let mut run = library::begin(size as u64).unwrap();
-    let mut out = Outputs::new(size);
-    let mut sum = 0;
-    loop {
-        let length = library::step(&mut run, &mut out.s0, &mut out.s1, &mut out.word).unwrap();
-        if length == 0 {
-            return sum;
-        }
-        sum += seen(&out.s0, &out.s1, &out.word[..length]);
-    }
+pub fn by_lister(size: usize) -> u64 {
+    let (mut out, mut sum) = (Outputs::new(size), 0);
+    same::lister::list(size, |s0, s1, word| sum += out.copy(s0, s1, word));
+    sum
 }
 
 pub fn by_generator(size: usize) -> u64 {
-    let mut out = Outputs::new(size);
-    let mut sum = 0;
-    generate(size, |s0, s1, word| {
-        out.copy(s0, s1, word);
-        sum += seen(&out.s0, &out.s1, &out.word[..word.len()]);
-    });
+    let (mut out, mut sum) = (Outputs::new(size), 0);
+    generate(size, |s0, s1, word| sum += out.copy(s0, s1, word));
     sum
 }
 
@@ -71,60 +67,76 @@ pub fn marked_by_blocks(size: usize) -> u64 {
     kept
 }
 
-pub fn marked_by_steps(size: usize) -> u64 {
-    let mut run = library::begin(size as u64).unwrap();
-    let mut out = Outputs::new(size);
-    let mut kept = 0;
-    while library::step(&mut run, &mut out.s0, &mut out.s1, &mut out.word).unwrap() != 0 {
-        kept += library::kept(&out.s0, &out.s1, 1).unwrap() as u64;
-    }
-    kept
-}
-
-pub fn marked_by_generator(size: usize) -> u64 {
-    let mut out = Outputs::new(size);
-    let mut kept = 0;
-    generate(size, |s0, s1, word| {
+pub fn marked_by_lister(size: usize) -> u64 {
+    let (mut out, mut kept) = (Outputs::new(size), 0);
+    let mut tracer = Tracer::<SMALL_PLACES>::new();
+    same::lister::list(size, |s0, s1, word| {
         out.copy(s0, s1, word);
-        black_box(&out);
-        kept += kept_known(s0, s1, word) as u64;
+        kept += tracer.least(s0, s1, 1, word) as u64;
     });
     kept
 }
 
-fn row(name: &'static str, size: usize, bar: Option<f64>, library: Lister, generator: Lister) -> Row {
-    let sides: Vec<Work> = vec![Box::new(move || library(size)), Box::new(move || generator(size))];
-    Row { name, calls: count_of(size), bar, sides }
+pub fn marked_by_generator(size: usize, mark: impl Fn(&[u16], &[u16], &[u16]) -> bool) -> u64 {
+    let (mut out, mut kept) = (Outputs::new(size), 0);
+    generate(size, |s0, s1, word| {
+        out.copy(s0, s1, word);
+        kept += mark(s0, s1, word) as u64;
+    });
+    kept
 }
 
-pub fn list_20() -> Row {
-    row("whole list 20", 20, Some(2.0), by_blocks, by_generator)
+pub fn by_steps(step: Step, size: usize) -> u64 {
+    let mut run = library::begin(size as u64).unwrap();
+    let mut out = Outputs::new(size);
+    let mut sum = 0;
+    loop {
+        let length = step(&mut run, &mut out.s0, &mut out.s1, &mut out.word).unwrap();
+        if length == 0 {
+            return sum;
+        }
+        sum += seen(&out.s0, &out.s1, &out.word[..length]);
+    }
 }
 
-pub fn list_22() -> Row {
-    row("whole list 22", 22, Some(2.0), by_blocks, by_generator)
+pub fn marked_by_steps_of(step: Step, mark: Kept, size: usize) -> u64 {
+    let mut run = library::begin(size as u64).unwrap();
+    let mut out = Outputs::new(size);
+    let mut kept = 0;
+    while step(&mut run, &mut out.s0, &mut out.s1, &mut out.word).unwrap() != 0 {
+        kept += mark(&out.s0, &out.s1, 1).unwrap() as u64;
+    }
+    kept
 }
 
-pub fn marked_20() -> Row {
-    row("whole list 20 with keep marks", 20, Some(3.0), marked_by_blocks, marked_by_generator)
+fn row(size: usize, library: Lister, same: Lister, tuned: Option<Lister>, generator: Lister) -> Row {
+    let row = Row::new(count_of(size), move || library(size)).beside(Column::Same, move || same(size));
+    let row = match tuned {
+        Some(tuned) => row.beside(Column::Tuned, move || tuned(size)),
+        None => row,
+    };
+    row.beside(Column::Other, move || generator(size))
 }
 
-pub fn marked_22() -> Row {
-    row("whole list 22 with keep marks", 22, Some(3.0), marked_by_blocks, marked_by_generator)
+/// No tuned list is known that is faster than the generator's.
+pub fn list(size: usize) -> Row {
+    row(size, by_blocks, by_lister, None, by_generator)
 }
 
-pub fn list_20_by_steps() -> Row {
-    row("whole list 20 by steps", 20, None, by_steps, by_generator)
+pub fn marked(size: usize) -> Row {
+    let (known, tested): (Lister, Lister) = (|size| marked_by_generator(size, kept_known), |size| marked_by_generator(size, kept_tested));
+    row(size, marked_by_blocks, marked_by_lister, Some(tested), known)
 }
 
-pub fn list_22_by_steps() -> Row {
-    row("whole list 22 by steps", 22, None, by_steps, by_generator)
+pub fn list_by_steps(size: usize) -> Row {
+    let tuned: Lister = |size| by_steps(tuned::run::step, size);
+    row(size, |size| by_steps(library::step, size), |size| by_steps(same::run::step, size), Some(tuned), by_generator)
 }
 
-pub fn marked_20_by_steps() -> Row {
-    row("whole list 20 marked, by steps", 20, None, marked_by_steps, marked_by_generator)
-}
-
-pub fn marked_22_by_steps() -> Row {
-    row("whole list 22 marked, by steps", 22, None, marked_by_steps, marked_by_generator)
+pub fn marked_by_steps(size: usize) -> Row {
+    let tuned: Lister = |size| marked_by_steps_of(tuned::run::step, tuned::labelling::kept, size);
+    row(
+        size, |size| marked_by_steps_of(library::step, library::kept, size),
+        |size| marked_by_steps_of(same::run::step, same::labelling::kept, size), Some(tuned), |size| marked_by_generator(size, kept_known),
+    )
 }
