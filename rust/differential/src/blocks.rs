@@ -51,11 +51,17 @@ impl Lists {
     }
 }
 
-/// The kind of an accepted answer.
-pub fn kind(run: &Run, rows: u64, given: u64) -> &'static str {
-    match (run.stage, rows) {
+/// The kind of an accepted answer, from the run before it and after it.
+pub fn kind(before: &Run, after: &Run, rows: u64, given: u64) -> &'static str {
+    let turns = (before.items[0], after.items[0]) == (0, 1) && before.stage == 1;
+    match (before.stage, rows) {
         (2, _) => "finished",
+        (0, 0) => "fresh, no rows",
+        (0, _) if given < rows => "fresh, fewer",
+        (0, _) => "fresh, all",
         (_, 0) => "no rows",
+        _ if given == 0 => "at the last",
+        _ if turns => "U to T",
         _ if given < rows => "fewer",
         _ => "all",
     }
@@ -74,7 +80,7 @@ fn block(run: &mut Run, rows: u64, before: &Lists, marked: bool, counts: &mut Ou
     };
     let after = reference.as_ref().map_or_else(|_| before.clone(), |block| before.with(block));
     let given = reference.as_ref().map(|block| block.lengths.len() as u64).map_err(|number| *number);
-    let kind = outcome(&given, |given| kind(&input.0, rows, *given));
+    let kind = outcome(&given, |given| kind(&input.0, run, rows, *given));
     let library = (library.map_err(Refusal::number), reference_run(&other), lists);
     counts.compare(operation, kind, &library, &(given, run.clone(), after), &input)?;
     Ok(reference.ok())

@@ -76,20 +76,25 @@ fn by_reference(book: &mut Book, call: &Call) -> Answered {
 
 /// Makes a call on both books and compares the answers, the lists and the books; returns what an accepted call gave.
 fn call(book: &mut Book, call: &Call, counts: &mut OutcomeCounts) -> Result<Option<Given>, Box<Difference>> {
-    let before = book.clone();
-    let mut other = library_book(book);
-    let library = by_library(&mut other, call);
-    let reference = by_reference(book, call);
     let name = match call {
         Call::Claim { .. } => "claim",
         Call::Take { .. } => "take",
         Call::Commit { .. } => "commit",
         Call::CommitRange { first, last, .. } if first > last => "empty range",
-        Call::CommitRange { ticket, first, last, .. } if past_end(&before, *ticket, *first, *last) => "range past end",
+        Call::CommitRange { ticket, first, last, .. } if past_end(book, *ticket, *first, *last) => "range past end",
         Call::CommitRange { .. } => "commit range",
         Call::Release { .. } => "release",
         Call::Report => "report",
     };
+    named_call(name, book, call, counts)
+}
+
+/// The same, counted by a name.
+fn named_call(name: &'static str, book: &mut Book, call: &Call, counts: &mut OutcomeCounts) -> Result<Option<Given>, Box<Difference>> {
+    let before = book.clone();
+    let mut other = library_book(book);
+    let library = by_library(&mut other, call);
+    let reference = by_reference(book, call);
     let kind = outcome(&reference.0, |given| match given {
         Given::Report(_, true) => "complete",
         Given::Report(_, false) => "open",
@@ -180,6 +185,38 @@ pub fn life(random: &mut Random, counts: &mut OutcomeCounts) -> Compared {
             Some(Given::Position(_, position, _)) => session.position = position,
             _ => (),
         }
+    }
+    Ok(())
+}
+
+/// Calls with a book whose tickets are old and far apart, as where shares were claimed long ago and others since again and again: several are equal modulo
+/// 64, some shares have none. In a copy of the book two tickets are equal, whether or not others are alike.
+pub fn old_tickets(random: &mut Random, counts: &mut OutcomeCounts) -> Compared {
+    let mut book = Book::blank();
+    book.open(random.between(8, 50), random.between(3, 32)).expect("a size and shares in range");
+    let (far, first) = (random.choose(&[64, 64, 128, 192]), random.between(1, 70));
+    let shares = book.shares as usize;
+    let patience = random.choose(&[1, 40, 2000]);
+    book.latest = random.between(0, 100_000);
+    for (rank, share) in random.order(shares).into_iter().enumerate() {
+        if rank < 2 || random.percent(80) {
+            book.ticket[share] = first + far * rank as u64;
+            book.expiry[share] = (book.latest + random.between(0, 2 * patience)).saturating_sub(patience / 2);
+        }
+    }
+    book.issued = first + far * 32 + random.between(0, 3);
+    let session = Session { tickets: book.ticket.into_iter().filter(|ticket| *ticket != 0).collect(), position: book.next[0] };
+    for _ in 0..4 {
+        let next = next_call(random, &book, &session, patience);
+        named_call("tickets modulo 64", &mut book.clone(), &next, counts)?;
+        let mut copy = book.clone();
+        // Tickets that differ modulo 64 but for two that are equal, or the same ones with two equal.
+        if random.percent(50) {
+            copy.ticket.iter_mut().filter(|ticket| **ticket != 0).for_each(|ticket| *ticket = 1 + (*ticket - first) / far);
+        }
+        let held: Vec<usize> = random.order(shares).into_iter().filter(|share| copy.ticket[*share] != 0).collect();
+        copy.ticket[held[0]] = copy.ticket[held[1]];
+        named_call("equal tickets", &mut copy, &next, counts)?;
     }
     Ok(())
 }

@@ -18,14 +18,15 @@ pub struct Mix {
 pub const EVERY: Mix = Mix { middling: 100, large: 40 };
 pub const FEW_LARGE: Mix = Mix { middling: 80, large: 12 };
 
-/// A size from 1 to 1,024, mostly small; its upper edge comes often among the large ones.
+/// A size from 1 to 1,024, mostly small; its upper edge comes often among the large ones, and 64, up to which the library labels in small arrays, among
+/// the middling.
 pub fn size(random: &mut Random, mix: Mix) -> usize {
     let share = random.below(1000);
     if share < mix.large {
         return if random.percent(25) { 1022 + random.below(3) } else { 201 + random.below(824) };
     }
     if share < mix.large + mix.middling {
-        return 51 + random.below(150);
+        return if random.percent(30) { 63 + random.below(4) } else { 51 + random.below(150) };
     }
     if random.percent(70) { 1 + random.below(9) } else { 10 + random.below(41) }
 }
@@ -224,7 +225,19 @@ fn scattered(random: &mut Random, n: usize) -> Diagram {
 
 /// Two diagrams side by side, which are not connected with one another.
 fn beside(random: &mut Random, n: usize) -> Diagram {
-    let (mut first, second) = (grown(random, n.div_ceil(2)), grown(random, (n / 2).max(1)));
+    let (first, second) = (grown(random, n.div_ceil(2)), grown(random, (n / 2).max(1)));
+    side_by_side(first, second)
+}
+
+/// A diagram of n edges, two at least, in two parts or more, its root in any.
+pub fn in_parts(random: &mut Random, n: usize) -> Diagram {
+    let first = 1 + random.below(n - 1);
+    let (first, second) = (scattered(random, first), scattered(random, n - first));
+    let both = side_by_side(first, second);
+    carried(random, &both).0
+}
+
+fn side_by_side(mut first: Diagram, second: Diagram) -> Diagram {
     let shift = first.s0.len() as u16;
     first.s0.extend(second.s0.iter().map(|entry| entry + shift));
     first.s1.extend(second.s1.iter().map(|entry| entry + shift));

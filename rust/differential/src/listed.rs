@@ -56,10 +56,14 @@ pub fn position(random: &mut Random, counts: &mut OutcomeCounts) -> Compared {
     if random.percent(50) {
         damage(random, &mut lent);
     }
-    let Diagram { s0, s1, root } = &lent;
+    position_of("position", &lent, counts)
+}
+
+pub fn position_of(name: &'static str, lent: &Diagram, counts: &mut OutcomeCounts) -> Compared {
+    let Diagram { s0, s1, root } = lent;
     let library = kaldvemir::position(s0, s1, *root).map_err(Refusal::number);
     let reference = reference::position(s0, s1, *root);
-    counts.compare("position", outcome(&reference, accepted), &library, &reference, &lent)
+    counts.compare(name, outcome(&reference, accepted), &library, &reference, lent)
 }
 
 pub fn plain_walk(random: &mut Random, counts: &mut OutcomeCounts) -> Compared {

@@ -31,6 +31,40 @@ pub fn word(random: &mut Random, n: usize) -> Vec<u16> {
     word
 }
 
+/// Where all joins of a tall word reach, of h labels below the one that is popped: the first place below the top, the last, one beside the middle, or any.
+pub const REACHES: [&str; 5] = ["top", "bottom", "above middle", "below middle", "any place"];
+
+/// A word of many edges that first forks up to many pending labels and then mostly joins them, and where its joins reach; now and then its first join
+/// reaches just past the bottom.
+pub fn tall_word(random: &mut Random) -> (Vec<u16>, &'static str) {
+    let n = if random.percent(10) { 400 + random.below(625) } else { 65 + random.below(150) };
+    let forks = (n - 3) / 3 - random.below(10);
+    let (mut word, mut height) = (vec![1; 1 + forks], 3 + forks);
+    let reach = random.choose(&REACHES);
+    while height > 1 {
+        let h = height - 1;
+        let d = match reach {
+            "top" => 0,
+            "bottom" => h - 1,
+            "above middle" => (h - 1) / 2,
+            "below middle" => h / 2,
+            _ => random.below(h),
+        };
+        word.push(3 + d as u16);
+        height -= 2;
+        // A label that stays alone changes whether the height is even.
+        if height > 0 && random.percent(10) {
+            word.push(0);
+            height -= 1;
+        }
+    }
+    word.extend(vec![0; height]);
+    if random.percent(10) {
+        word[1 + forks] = 3 + 2 + forks as u16;
+    }
+    (word, reach)
+}
+
 /// A word, right or damaged, with the labels at and past their limit and lengths at and past theirs.
 pub fn any_word(random: &mut Random) -> Vec<u16> {
     let n = if random.percent(8) { 1020 + random.below(12) } else { size(random, EVERY) };

@@ -39,7 +39,7 @@ const PIECE: u64 = 5_000;
 type Comparison = fn(&mut Random, &mut OutcomeCounts) -> Compared;
 
 /// Each comparison with the operations it compares.
-const COMPARISONS: [(Comparison, &[&str]); 27] = [
+const COMPARISONS: [(Comparison, &[&str]); 30] = [
     (given::kept, &["kept"]),
     (blocks::list_marked, &["list marked"]),
     (blocks::list, &["list"]),
@@ -52,6 +52,8 @@ const COMPARISONS: [(Comparison, &[&str]); 27] = [
     (given::relabel, &["relabel"]),
     (given::invariants, &["invariants"]),
     (given::read_word, &["read word"]),
+    (given::parts, &["parts up to 64", "parts above 64"]),
+    (given::tall, &["read tall word", "relabel tall"]),
     (given::lesser, &["lesser"]),
     (given::letters, &["letters"]),
     (listed::count, &["count"]),
@@ -66,6 +68,7 @@ const COMPARISONS: [(Comparison, &[&str]); 27] = [
     (upto::steps, &["upto step"]),
     (sheets::sheet_positions, &["sheet positions"]),
     (books::open, &["open"]),
+    (books::old_tickets, &["tickets modulo 64", "equal tickets"]),
     (books::life, &["claim", "take", "commit", "commit range", "release", "report"]),
 ];
 

@@ -1,4 +1,5 @@
 //! What was compared: per operation the inputs, the answers and the refusals, and the first difference.
+use crate::lists::REACHES;
 use std::collections::BTreeMap;
 use std::fmt::{self, Debug};
 
@@ -21,18 +22,27 @@ pub struct Difference {
 pub type Compared = Result<(), Box<Difference>>;
 
 /// Every operation with the kinds of its accepted answers and its refusals: each is to be met.
-pub const OPERATIONS: [(&str, &[&str], &[u16]); 37] = [
+pub const OPERATIONS: [(&str, &[&str], &[u16]); 45] = [
     ("check", &["accepted"], GIVEN),
     ("all reached", &["yes", "no"], &[]),
     ("relabel", &["accepted"], &[1, 2, 3, 4, 5, 6, 7, 8, 9]),
     ("compare rooted", &["same", "different"], GIVEN),
     ("compare unrooted", &["same", "different"], GIVEN),
-    ("symmetries", &["one", "more"], GIVEN),
-    ("kept", &["yes", "no"], GIVEN),
+    // by how the word begins: with U, with T where s0 fixes some edge, or with T where it fixes none
+    ("symmetries", &["U, one", "U, more", "T beside U, one", "T beside U, more", "T, one", "T, more"], GIVEN),
+    ("kept", &["U, yes", "U, no", "T beside U, no", "T, yes", "T, no"], GIVEN),
     ("invariants", &["accepted"], &[1, 2, 3, 4, 5, 6, 7, 8, 62]),
     // invariants of a diagram whose level is from 2^63 to 2^65
     ("level near 2^64", &["below"], &[62]),
+    // a diagram in parts in check, relabel, kept, symmetries, invariants and position, and on each side of both compares
+    ("parts up to 64", &[], &[8]),
+    ("parts above 64", &[], &[8]),
+    ("compare parts up to 64", &[], &[8]),
+    ("compare parts above 64", &[], &[8]),
     ("read word", &["accepted"], &[21, 22, 23, 24, 25, 26, 9]),
+    // by where all joins of the word reach in a stack of many labels; 23 is a join past the bottom
+    ("read tall word", &REACHES, &[23, 9]),
+    ("relabel tall", &REACHES, &[9]),
     ("lesser", &["first", "second"], &[]),
     ("letters", &["accepted"], &[22, 9]),
     ("count", &["accepted"], &[31]),
@@ -44,9 +54,9 @@ pub const OPERATIONS: [(&str, &[&str], &[u16]); 37] = [
     ("begin", &["accepted"], &[31]),
     ("begin at", &["fresh", "at a diagram"], &[31, 32]),
     ("step", &["diagram", "end"], &[34, 9]),
-    ("list", &["all", "fewer", "no rows", "finished"], &[34, 9]),
-    ("list marked", &["all", "fewer", "no rows", "finished"], &[34, 9]),
-    ("rows", &["all", "fewer", "no rows", "finished"], &[34, 9]),
+    ("list", BLOCKS, &[34, 9]),
+    ("list marked", BLOCKS, &[34, 9]),
+    ("rows", BLOCKS, &[34, 9]),
     ("upto begin", &["accepted"], &[31]),
     ("upto step", &["diagram", "end", "end without room"], &[34, 9]),
     // a step of a run that is right but for its visits
@@ -55,6 +65,9 @@ pub const OPERATIONS: [(&str, &[&str], &[u16]); 37] = [
     // each cell of the sheets that are taken
     ("cell of a sheet", &["position"], &[61, 21, 26, 22, 23, 25, 31]),
     ("open", &["accepted"], &[31, 51]),
+    // any call with a book whose tickets differ, but several are equal modulo 64; and with one that has two equal tickets
+    ("tickets modulo 64", &["accepted", "open"], &[52, 53, 54, 56, 58, 59, 60, 9]),
+    ("equal tickets", &[], &[50]),
     ("claim", &["accepted"], &[50, 52, 53, 54, 55, 56, 57]),
     ("take", &["accepted"], &[50, 52, 58, 59, 9]),
     ("commit", &["accepted"], &[50, 52, 58, 59, 60]),
@@ -67,6 +80,9 @@ pub const OPERATIONS: [(&str, &[&str], &[u16]); 37] = [
 ];
 
 const GIVEN: &[u16] = &[1, 2, 3, 4, 5, 6, 7, 8];
+
+/// How a block was begun and how it ended; "U to T" goes on from a word with U to one with T.
+const BLOCKS: &[&str] = &["fresh, all", "fresh, fewer", "fresh, no rows", "all", "fewer", "no rows", "U to T", "at the last", "finished"];
 
 /// The outcomes of an operation that are to be met. Compare has its refusals on either side.
 fn wanted(name: &str, answers: &[&'static str], refusals: &[u16]) -> Vec<Outcome> {
@@ -130,10 +146,10 @@ impl OutcomeCounts {
 /// The table: a line for each operation.
 impl fmt::Display for OutcomeCounts {
     fn fmt(&self, out: &mut fmt::Formatter<'_>) -> fmt::Result {
-        writeln!(out, "{:<17}{:>10}{:>10}  answers; refusals", "operation", "compared", "accepted")?;
+        writeln!(out, "{:<24}{:>10}{:>10}  answers; refusals", "operation", "compared", "accepted")?;
         for (name, answers, refusals) in OPERATIONS {
             let accepted: u64 = answers.iter().map(|answer| self.times(name, Outcome::Accepted(answer))).sum();
-            write!(out, "{name:<17}{:>10}{accepted:>10} ", self.inputs(name))?;
+            write!(out, "{name:<24}{:>10}{accepted:>10} ", self.inputs(name))?;
             for outcome in wanted(name, answers, refusals) {
                 let times = self.times(name, outcome);
                 match outcome {

@@ -27,7 +27,7 @@ fn call(run: &mut Run, rows: u64, before: &[u8], counts: &mut OutcomeCounts) -> 
     let reference = run.rows(rows, before.len());
     let after = reference.as_ref().map_or_else(|_| before.to_vec(), |given| overwritten(before, &given.text));
     let told = reference.as_ref().map(|given| (given.rows, given.text.len(), given.kept)).map_err(|number| *number);
-    let kind = outcome(&reference, |given| kind(&input.0, rows, given.rows));
+    let kind = outcome(&reference, |given| kind(&input.0, run, rows, given.rows));
     counts.compare("rows", kind, &(library, reference_run(&other), bytes), &(told, run.clone(), after), &input)?;
     Ok(reference.ok())
 }

@@ -5,6 +5,7 @@ use crate::outcomes::{Compared, Difference, OutcomeCounts};
 use crate::random::Random;
 use kaldvemir::Refusal;
 use reference::{Run, Written};
+use std::sync::OnceLock;
 
 pub fn library_run(run: &Run) -> kaldvemir::Run {
     kaldvemir::Run { size: run.size, stage: run.stage, length: run.length, items: run.items }
@@ -65,16 +66,32 @@ pub fn steps(random: &mut Random, counts: &mut OutcomeCounts) -> Compared {
     Ok(())
 }
 
-/// A valid run: fresh, finished, or at a diagram; often near the ends of the listing, and of a size up to 9 in so many of a hundred cases.
+/// How many words of a size begin with U; they come first.
+fn single_roots(size: u16) -> u64 {
+    static FOUND: [OnceLock<u64>; 51] = [const { OnceLock::new() }; 51];
+    *FOUND[usize::from(size)].get_or_init(|| {
+        let begins_with_t = |position| reference::diagram_at(size.into(), position, [50, 50, 51]).expect("a position in range").word[0] == 1;
+        let (mut low, mut high) = (0, reference::count(size.into()).expect("a size in range"));
+        while low < high {
+            let middle = low + (high - low).div_ceil(2);
+            if begins_with_t(middle) { high = middle - 1 } else { low = middle }
+        }
+        low
+    })
+}
+
+/// A valid run: fresh, finished, or at a diagram; often near the ends of the listing or where U gives way to T, and of a size up to 9 in so many of a
+/// hundred cases.
 pub fn anywhere(random: &mut Random, small: usize) -> Run {
     let size = if random.percent(small) { random.between(1, 9) } else { random.between(1, 50) } as u16;
     let count = reference::count(size.into()).expect("a size in range");
-    let position = match random.below(10) {
+    let position = match random.below(11) {
         0 => return Run { size, stage: 0, length: 0, items: [0; 51] },
         1 => return Run { size, stage: 2, length: 0, items: [0; 51] },
         2 => 1,
         3 => count,
         4 => count.saturating_sub(random.between(0, 4)).max(1),
+        5 => (single_roots(size) + random.between(0, 1)).saturating_sub(random.between(0, 4)).clamp(1, count),
         _ => random.between(1, count),
     };
     Run::at(size, position)
