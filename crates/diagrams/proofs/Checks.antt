@@ -9,7 +9,7 @@ use lib.ListN.{length, getD, List·getD-eq-default}
 use Rattle.lists.specs.Lists.{at}
 use Rattle.lists.proofs.Tests.{same?, lt?}
 use Rattle.diagrams.specs.Diagram.{Maps, Diagram, Rooted}
-use Rattle.diagrams.specs.Check.{Size, Lengths, Root, Entries, Thrice, Twice, Connected, Accepts, Refuses, no-size, no-lengths, no-root, no-blacks, no-whites, no-thrice, no-twice, no-path, CheckPromise, Mapped}
+use Rattle.diagrams.specs.Check.{Size, Lengths, Root, Entries, Thrice, Twice, Connected, Accepts, Refuses, no-size, no-lengths, no-root, no-blacks, no-whites, no-thrice, no-twice, no-path, CheckPromise, Mapped, RootedMaps}
 use Rattle.diagrams.specs.declared.Verdict.{Verdict}
 use Rattle.diagrams.specs.declared.Verdict.the-variants.{Accepted, Refused}
 
@@ -49,6 +49,9 @@ accepts-maps s0 s1 root a = accepts-diagram s0 s1 root a .maps
 
 pub accepts-mapped : {s0 s1 : List ℕ} {root : ℕ} → Accepts s0 s1 root → Mapped s0 s1
 accepts-mapped {s0} {s1} {root} a = record { size = a .size; lengths = a .lengths; maps = accepts-maps s0 s1 root a }
+
+pub accepts-rooted-maps : {s0 s1 : List ℕ} {root : ℕ} → Accepts s0 s1 root → RootedMaps s0 s1 root
+accepts-rooted-maps a = record { mapped = accepts-mapped a; root-in = a .root-in }
 
 -- ---- each number has its condition, and there is one answer only
 
@@ -94,13 +97,25 @@ module _ (s0 s1 : List ℕ) (root : ℕ) where
   pub accepted-at : Accepts s0 s1 root → Before 9
   accepted-at a = (((((((((tt, tt), a .size), a .lengths), a .root-in), a .blacks), a .whites), a .thrice), a .twice), a .connected)
 
-  -- what the test for connectedness may rely on
-  pub mapped : Before 8 → Mapped s0 s1
-  mapped b = record {
-    size = b .0 .0 .0 .0 .0 .0 .1;
-    lengths = b .0 .0 .0 .0 .0 .1;
-    maps = record { some-edge = b .0 .0 .0 .0 .0 .0 .1 .0; black-in = b .0 .0 .0 .1; white-in = b .0 .0 .1; thrice = b .0 .1; twice = rw (← b .0 .0 .0 .0 .0 .1) (b .1) };
+  -- the first seven together
+  pub rooted-maps : Before 8 → RootedMaps s0 s1 root
+  rooted-maps b = record {
+    mapped = record {
+      size = b .0 .0 .0 .0 .0 .0 .1;
+      lengths = b .0 .0 .0 .0 .0 .1;
+      maps = record { some-edge = b .0 .0 .0 .0 .0 .0 .1 .0; black-in = b .0 .0 .0 .1; white-in = b .0 .0 .1; thrice = b .0 .1; twice = rw (← b .0 .0 .0 .0 .0 .1) (b .1) };
+    };
+    root-in = b .0 .0 .0 .0 .1;
   }
+
+  maps-before : RootedMaps s0 s1 root → Before 8
+  maps-before m = ((((((((tt, tt), m .mapped .size), m .mapped .lengths), m .root-in), m .mapped .maps .black-in), m .mapped .maps .white-in), m .mapped .maps .thrice), rw (m .mapped .lengths) (m .mapped .maps .twice))
+
+  pub maps-accepted : RootedMaps s0 s1 root → Connected s0 s1 → Accepts s0 s1 root
+  maps-accepted m c = accepts (maps-before m, c)
+
+  pub maps-refused : RootedMaps s0 s1 root → ¬ Connected s0 s1 → Refuses s0 s1 root 8
+  maps-refused m n = refuses 8 (maps-before m) n
 
   before-asked : (k j : ℕ) → j < k → Before k → Asked j
   before-asked zero j l b = absurd (omega arith)

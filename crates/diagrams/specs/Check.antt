@@ -1,8 +1,10 @@
 -- What check answers of a lent diagram (document 01, "Check"): refusals 1 to 8, each for its condition where none before it applies.
 --
 --   Accepts s0 s1 root               all eight conditions hold: a rooted diagram of size 1 to 1,024
+--   RootedMaps s0 s1 root            the first seven hold: maps of the edges 1..n, and the root is one of these
 --   Refuses s0 s1 root k             what is asked before the k-th holds, and the k-th does not
 --   CheckPromise s0 s1 root answer   the promise of check
+--   MapsPromise s0 s1 root answer    the promise of check_maps, which leaves the eighth out
 use mathlib.Core.List.{List}
 use Prim.Native.Nat.{ℕ}
 use lib.ListN.{length}
@@ -21,6 +23,10 @@ pub record Accepts (s0 s1 : List ℕ) (root : ℕ) : Type 0 where
   pub twice : Twice s1
   pub connected : Connected s0 s1
 
+pub record RootedMaps (s0 s1 : List ℕ) (root : ℕ) : Type 0 where
+  pub mapped : Mapped s0 s1
+  pub root-in : Root s0 root
+
 pub data Refuses (s0 s1 : List ℕ) (root : ℕ) : ℕ → Type 0 where
   no-size : ¬ Size s0 → Refuses s0 s1 root 1
   no-lengths : Size s0 → ¬ Lengths s0 s1 → Refuses s0 s1 root 2
@@ -35,3 +41,7 @@ pub data Refuses (s0 s1 : List ℕ) (root : ℕ) : ℕ → Type 0 where
 abbrev pub CheckPromise : List ℕ → List ℕ → ℕ → Verdict → Type 0
 CheckPromise s0 s1 root Accepted = Accepts s0 s1 root
 CheckPromise s0 s1 root (Refused k) = Refuses s0 s1 root (check-number (Refused k))
+
+abbrev pub MapsPromise : List ℕ → List ℕ → ℕ → Verdict → Type 0
+MapsPromise s0 s1 root Accepted = RootedMaps s0 s1 root
+MapsPromise s0 s1 root (Refused k) = Refuses s0 s1 root (check-number (Refused k))

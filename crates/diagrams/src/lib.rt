@@ -1,7 +1,8 @@
 // Trivalent diagrams: the type of a rooted diagram with its limits, and check, which says whether lent lists and a root are one.
 //
 // Check tests its conditions in document 01's order and answers the number of the first that fails, 1 to 8. It takes lists of any
-// length and any root, and its time is linear in the size: each edge is looked at a fixed number of times.
+// length and any root, and its time is linear in the size: each edge is looked at a fixed number of times. Whoever labels the diagram
+// anyway needs no search for the eighth, that it is connected, and tests the first seven by check_maps.
 pub use diagrams_entries::all_reached;
 use diagrams_entries::entries_in;
 use diagrams_entries::within;
@@ -13,7 +14,7 @@ ghost use mathlib.Core.Path.{_≡_};
 ghost use mathlib.Core.Logic.{_↔_};
 ghost use mathlib.Core.Bool.{true};
 ghost use mathlib.Core.List.{[], _∷_};
-ghost use Rattle.diagrams.specs.Check.{Connected, Mapped, Accepts, CheckPromise};
+ghost use Rattle.diagrams.specs.Check.{Connected, Mapped, Accepts, CheckPromise, MapsPromise};
 ghost use Rattle.diagrams.specs.Held.{Held, CheckedDiagramPromise};
 
 // What check answers: Refused holds document 01's number.
@@ -92,10 +93,10 @@ fn held(s0: &[u16], s1: &[u16], root: u64) -> Diagram
     }
 }
 
-// Whether the lent lists and root are a rooted diagram. 1 length of s0 is 0 or above 1,024; 2 lengths differ; 3 root outside 1..n;
-// 4 an s0 entry outside 1..n; 5 the same in s1; 6 s0 thrice moves an edge; 7 s1 twice does; 8 not connected.
-pub fn check(s0: &[u16], s1: &[u16], root: u64) -> Verdict
-    ensures { λ r. ⌜ CheckPromise (now (s0 .entry)) (now (s1 .entry)) root r ⌝ }
+// Whether the lent lists are maps of the edges 1..n and the root is an edge. 1 length of s0 is 0 or above 1,024; 2 lengths differ;
+// 3 root outside 1..n; 4 an s0 entry outside 1..n; 5 the same in s1; 6 s0 thrice moves an edge; 7 s1 twice does.
+pub fn check_maps(s0: &[u16], s1: &[u16], root: u64) -> Verdict
+    ensures { λ r. ⌜ MapsPromise (now (s0 .entry)) (now (s1 .entry)) root r ⌝ }
 {
     let n = s0.len();
     if !within(n as u64, Diagram::MAX_SIZE) {
@@ -119,10 +120,23 @@ pub fn check(s0: &[u16], s1: &[u16], root: u64) -> Verdict
     if !twice(s1) {
         return Verdict::Refused(7);
     }
-    if !connected(s0, s1) {
-        return Verdict::Refused(8);
-    }
     Verdict::Accepted
+}
+
+// Whether the lent lists and root are a rooted diagram: 1 to 7 as check_maps; 8 not connected.
+pub fn check(s0: &[u16], s1: &[u16], root: u64) -> Verdict
+    ensures { λ r. ⌜ CheckPromise (now (s0 .entry)) (now (s1 .entry)) root r ⌝ }
+{
+    let maps = check_maps(s0, s1, root);
+    match maps {
+        Verdict::Refused(k) => Verdict::Refused(k),
+        Verdict::Accepted => {
+            if !connected(s0, s1) {
+                return Verdict::Refused(8);
+            }
+            Verdict::Accepted
+        }
+    }
 }
 
 // Up to this size the search has small arrays: clearing large ones would take longer than the search itself.

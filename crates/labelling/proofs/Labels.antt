@@ -65,7 +65,7 @@ lab-in (y ∷ o) x h = go (same? x y) h (lab-in o x)
     go (inr n) (inl e) k = absurd (n e)
     go (inr n) (inr h) k = rw (eqb-ne x y n) (let i = k h in omega arith)
 
-edge-in : (o : List ℕ) (j : ℕ) → OneTo (length o) j → Has (edgeOf o j) o
+pub edge-in : (o : List ℕ) (j : ℕ) → OneTo (length o) j → Has (edgeOf o j) o
 edge-in [] j h = absurd (omega arith)
 edge-in (y ∷ o) j h = go (same? j (suc (length o))) (edge-in o j)
   where

@@ -6,5 +6,6 @@ pub mod OwnWord
 pub mod SpelledWord
 pub mod WordsIsomorphic
 pub mod Ended
+pub mod Reached
 pub mod OfLists
 pub mod Rootings

@@ -2,7 +2,7 @@
 use mathlib.Core.Path.{_≡_, refl, sym, _∙_}
 use mathlib.Core.Logic.{_≢_, _⊎_, inl, inr}
 use mathlib.Core.List.{List, [], _∷_, _++_}
-use Prim.Native.Nat.{ℕ, zero, suc, _+_, _-_, _≤_, _<_}
+use Prim.Native.Nat.{ℕ, suc, _+_, _-_, _≤_, _<_}
 use native.Mathlib.Omega.{arith}
 use native.Mathlib.Numerals.{add-one}
 use lib.ListN.{length, getD, set, drop, replicate, length-set, length-replicate}
@@ -28,18 +28,16 @@ lab-zero o x e h = let i = lab-in o x h in omega arith
 
 -- ---- arrays of zeros
 
+pub zeros-unlabelled : (m : ℕ) → LabelsHeld (replicate m 0) (replicate m 0) 0 []
+zeros-unlabelled m = record { given-is = refl; label-of = λ x. at-zeros m (suc x); edge-of = λ j e. absurd (omega arith) }
+
 pub zeros-ready : Ready (replicate 1025 0) (replicate 1025 0) (replicate 1025 0) (replicate 1025 0)
-zeros-ready = record {
-  unlabelled = record { labels-long = length-replicate {A = ℕ} 1025 0; order-long = length-replicate {A = ℕ} 1025 0; given-is = refl; label-of = λ x. at-zeros 1025 (suc x); edge-of = λ j e. absurd (omega arith) };
-  empty = ring-empty;
-}
+zeros-ready = record { labels-long = length-replicate {A = ℕ} 1025 0; order-long = length-replicate {A = ℕ} 1025 0; unlabelled = zeros-unlabelled 1025; empty = ring-empty }
 
 -- ---- giving the next label
 
-pub holds-give : (la od : List ℕ) (c x : ℕ) (o : List ℕ) → c < 1024 → x < 1025 → LabelsHeld la od c o → LabelsHeld (set la x (c + 1)) (set od (c + 1) x) (c + 1) (x ∷ o)
+pub holds-give : (la od : List ℕ) (c x : ℕ) (o : List ℕ) → suc c < length od → x < length la → LabelsHeld la od c o → LabelsHeld (set la x (c + 1)) (set od (c + 1) x) (c + 1) (x ∷ o)
 holds-give la od c x o hc hx h = record {
-  labels-long = simp length-set (h .labels-long);
-  order-long = simp length-set (h .order-long);
   given-is = top;
   label-of = λ y. label y (same? y x);
   edge-of = λ j e. edge-at j e (same? j (suc (length o)));
@@ -49,25 +47,25 @@ holds-give la od c x o hc hx h = record {
     top = let e = h .given-is in omega arith
 
     label : (y : ℕ) → (y ≡ x) ⊎ (y ≢ x) → getD (set la x (c + 1)) y 0 ≡ labelOf (x ∷ o) y
-    label y (inl e) = rw (e, eqb-same x) (getD-set-same la x (c + 1) 0 (let l = h .labels-long in omega arith) ∙ top)
+    label y (inl e) = rw (e, eqb-same x) (getD-set-same la x (c + 1) 0 hx ∙ top)
     label y (inr n) = rw (eqb-ne y x n) (getD-set-other la x y (c + 1) 0 n ∙ h .label-of y)
 
     edge-at : (j : ℕ) → OneTo (suc (length o)) j → (j ≡ suc (length o)) ⊎ (j ≢ suc (length o)) → getD (set od (c + 1) x) j 0 ≡ edgeOf (x ∷ o) j
-    edge-at j e (inl q) = rw (q, eqb-same (suc (length o)), ← top) (getD-set-same od (c + 1) x 0 (let l = h .order-long in omega arith))
+    edge-at j e (inl q) = rw (q, eqb-same (suc (length o)), ← top) (getD-set-same od (c + 1) x 0 (omega arith))
     edge-at j e (inr n) = rw (eqb-ne j (suc (length o)) n) (getD-set-other od (c + 1) j x 0 (λ q. n (q ∙ top)) ∙ h .edge-of j (omega arith))
 
 -- ---- taking the last label back
 
-take-last : (la od : List ℕ) (c : ℕ) (o : List ℕ) → c ≢ 0 → LabelsHeld la od c o → Distinct o → ((x : ℕ) → Has x o → x < 1025) → c ≤ 1024
-    → (getD od c 0 < 1025) × SomeLabelsHeld (set la (getD od c 0) 0) od (c - 1)
+take-last : (la od : List ℕ) (c : ℕ) (o : List ℕ) → c ≢ 0 → LabelsHeld la od c o → Distinct o → ((x : ℕ) → Has x o → x < length la) → c < length od
+    → (getD od c 0 < length la) × SomeLabelsHeld (set la (getD od c 0) 0) od (c - 1)
 take-last la od c [] n h a s r = absurd (n (h .given-is))
 take-last la od c (y ∷ o) n h a s r = rw last (
   s y (inl refl),
   record {
     edges = o;
-    holds = record { labels-long = simp length-set (h .labels-long); order-long = h .order-long; given-is = let e = h .given-is in omega arith; label-of = λ x. label x (same? x y); edge-of = edge-at };
+    holds = record { given-is = let e = h .given-is in omega arith; label-of = λ x. label x (same? x y); edge-of = edge-at };
     distinct = a .1;
-    small = λ x i. s x (inr i);
+    small = λ x i. simp length-set (s x (inr i));
     room = omega arith;
   },
 )
@@ -76,14 +74,14 @@ take-last la od c (y ∷ o) n h a s r = rw last (
     last = rw (h .given-is) (h .edge-of (suc (length o)) (omega arith) ∙ rw (eqb-same (suc (length o))))
 
     label : (x : ℕ) → (x ≡ y) ⊎ (x ≢ y) → getD (set la y 0) x 0 ≡ labelOf o x
-    label x (inl e) = rw e (getD-set-same la y 0 0 (let i = s y (inl refl) in let l = h .labels-long in omega arith) ∙ sym (lab-none o y (a .0)))
+    label x (inl e) = rw e (getD-set-same la y 0 0 (s y (inl refl)) ∙ sym (lab-none o y (a .0)))
     label x (inr m) = getD-set-other la y x 0 0 m ∙ h .label-of x ∙ rw (eqb-ne x y m)
 
     edge-at : (j : ℕ) → OneTo (length o) j → getD od j 0 ≡ edgeOf o j
     edge-at j e = h .edge-of j (omega arith) ∙ rw (eqb-ne j (suc (length o)) (λ q. omega arith))
 
 module _ (la od : List ℕ) (c : ℕ) (h : SomeLabelsHeld la od c) where
-  pub take-back : c ≢ 0 → (getD od c 0 < 1025) × SomeLabelsHeld (set la (getD od c 0) 0) od (c - 1)
+  pub take-back : c ≢ 0 → (getD od c 0 < length la) × SomeLabelsHeld (set la (getD od c 0) 0) od (c - 1)
   take-back n = take-last la od c (h .edges) n (h .holds) (h .distinct) (h .small) (h .room)
 
   pub taken-back : c ≡ 0 → LabelsHeld la od 0 []

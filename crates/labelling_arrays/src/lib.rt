@@ -1,5 +1,6 @@
 // What an event does to the lent arrays of a labelling: `labels` (the label of each edge, 0 where it has none), `order` (the edge of each
-// label) and the pending ring, which holds edges.
+// label) and the pending ring, which holds edges. The first two are as long as the caller's diagrams need: clearing arrays for the
+// largest size would take longer than the labelling of a small diagram.
 use lists::to_index;
 ghost use mathlib.Core.Path.{_≡_};
 ghost use mathlib.Core.List.{List, _∷_};
@@ -19,8 +20,8 @@ pub fn follow(s: &[u16], x: u16) -> u16
 }
 
 // Gives edge x the next label, and returns it.
-pub fn give_label(labels: &mut [u16; 1025], order: &mut [u16; 1025], given: u16, x: u16) -> u16
-    requires { ⌜ (given < 1024) × (x < 1025) ⌝ }
+pub fn give_label(labels: &mut [u16], order: &mut [u16], given: u16, x: u16) -> u16
+    requires { ⌜ (given < 1024) × (suc given < length (now order)) × (x < length (now labels)) ⌝ }
     ensures next { λ r. ⌜ r ≡ given + 1 ⌝ }
     ensures held { λ r. ⌜ ((o : List ℕ) → LabelsHeld (now (labels .entry)) (now (order .entry)) given o → LabelsHeld (now (labels .exit)) (now (order .exit)) r (x ∷ o)) ⌝ }
 {
@@ -45,8 +46,8 @@ pub fn join_pending(next: &mut [u16; 1025], prev: &mut [u16; 1025], p: u16) -> u
 
 // F: the edges p, q and s round a black vertex get the next labels, and the last two are pushed.
 pub fn add_triple(
-    labels: &mut [u16; 1025],
-    order: &mut [u16; 1025],
+    labels: &mut [u16],
+    order: &mut [u16],
     next: &mut [u16; 1025],
     prev: &mut [u16; 1025],
     given: u16,
@@ -55,6 +56,7 @@ pub fn add_triple(
     s: u16,
 ) -> u16
     requires { ⌜ (given + 3 ≤ 1024) × OneTo 1024 p × OneTo 1024 q × OneTo 1024 s ⌝ }
+    requires { ⌜ (given + 3 < length (now order)) × (p < length (now labels)) × (q < length (now labels)) × (s < length (now labels)) ⌝ }
     requires { ⌜ ((st : List ℕ) × Ring (now next) (now prev) st × (¬ Has q st) × (¬ Has s (q ∷ st))) ⌝ }
     ensures held { λ r. ⌜ ((o : List ℕ) → LabelsHeld (now (labels .entry)) (now (order .entry)) given o → LabelsHeld (now (labels .exit)) (now (order .exit)) r (s ∷ q ∷ p ∷ o)) ⌝ }
     ensures pushed { λ r. ⌜ ((st : List ℕ) → Ring (now (next .entry)) (now (prev .entry)) st → ¬ Has q st → ¬ Has s (q ∷ st) → Ring (now (next .exit)) (now (prev .exit)) (s ∷ q ∷ st)) ⌝ }

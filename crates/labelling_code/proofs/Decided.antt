@@ -11,7 +11,6 @@ use lib.ListN.{length, getD, set, take, drop, take-append-drop, length-append, d
 use lib.Seq.{drop-cons, take-suc, take-at, take-append-seam}
 use Rattle.lists.specs.Lists.{at}
 use Rattle.lists.proofs.Tests.{lt?, lt-true, lt-false, same?, eqb-same, eqb-ne}
-use Rattle.diagrams.proofs.Checks.{accepts-maps}
 use Rattle.words.specs.Order.{precedes, same}
 use Rattle.labelling.specs.Labelling.{event, wordOf}
 use Rattle.labelling.proofs.Along.{size}
@@ -116,15 +115,17 @@ module _ (s0 s1 : List ℕ) (root : ℕ) (la od nx pv : List ℕ) (c : ℕ) (a b
           let (rest, e) = sofar-word s0 s1 root la od nx pv c (T .items) (T .filled .sofar) in
           record { begins = begun rest e; order-as = rw e (sym (d rest .0)); same-as = rw e (sym (d rest .1)) }
 
-  pub tracked-end : on ≡ false → Followed s0 s1 root own la od nx pv b record { len = m; given = c }
-  tracked-end f = record {
+  pub tracked-end : length la ≡ 1025 → length od ≡ 1025 → on ≡ false → Followed s0 s1 root own la od nx pv b record { len = m; given = c }
+  tracked-end k l f = record {
+    labels-long = k;
+    order-long = l;
     holds = record {
       edges = T .filled .sofar .marked;
       holds = u .holds;
       distinct = u .along .distinct;
-      small = λ x h. (let i = u .along .edges x h in let j = u .accepted .size in omega arith);
-      room = let i = size (length s0) (at s0) (at s1) (accepts-maps s0 s1 1 (u .accepted)) (T .filled .sofar .marked) (T .filled .sofar .stack) (u .along) in
-          let j = u .accepted .size in
+      small = λ x h. (let i = u .along .edges x h in let j = u .labels-long in omega arith);
+      room = let i = size (length s0) (at s0) (at s1) (u .mapped .maps) (T .filled .sofar .marked) (T .filled .sofar .stack) (u .along) in
+          let j = u .order-long in
           let l = u .holds .given-is in
           omega arith;
     };

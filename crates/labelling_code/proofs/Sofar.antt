@@ -11,12 +11,13 @@ use lib.Seq.{drop-set-lt}
 use Rattle.lists.specs.Lists.{at, Has}
 use Rattle.lists.specs.Ranges.{OneTo}
 use Rattle.lists.proofs.Copies.{written-more, written-length}
-use Rattle.diagrams.specs.Check.{Accepts}
-use Rattle.diagrams.proofs.Checks.{accepts-diagram, accepts-maps}
+use Rattle.diagrams.specs.Check.{RootedMaps}
+use Rattle.pending_ring.specs.Ring.{Ring}
 use Rattle.pending_ring.proofs.Laws.{ring-top}
 use Rattle.labelling.specs.Labelling.{event, Labelled, events, firstEvent, label, edgeOf, labels, wordOf}
 use Rattle.labelling.proofs.Along.{falls, size}
-use Rattle.labelling.proofs.Labels.{Done, done, whole, edge-n}
+use Rattle.labelling.proofs.Labels.{edge-in}
+use Rattle.labelling.proofs.Reached.{labels-done, labels-most}
 use Rattle.labelling_code.specs.Scratch.{LabelsHeld, SomeLabelsHeld, Underway, firstEventOf, EventDone, WordWritten}
 use Rattle.labelling_events.specs.declared.EventItem.{EventItem}
 
@@ -73,7 +74,7 @@ module _ (s0 s1 : List ℕ) (root : ℕ) (la od nx pv : List ℕ) (c : ℕ) (w :
   -- while an edge is pending, a move is left
   move-left : (k : ℕ) (r : List ℕ) → S .stack ≡ k ∷ r → 0 < S .left
   move-left k r e =
-      let i = size (length s0) (at s0) (at s1) (accepts-maps s0 s1 1 (S .underway .accepted)) (S .marked) (S .stack) (S .underway .along) in
+      let i = size (length s0) (at s0) (at s1) (S .underway .mapped .maps) (S .marked) (S .stack) (S .underway .along) in
       let j = S .enough in
       let l = ap length e in
       omega arith
@@ -87,7 +88,7 @@ module _ (s0 s1 : List ℕ) (root : ℕ) (la od nx pv : List ℕ) (c : ℕ) (w :
   sofar-event k r q la′ od′ nx′ pv′ e d = go (S .left) refl (move-left k r q)
     where
       fall : suc (length (event (at s0) (at s1) (S .marked) k r .stack) + length (S .marked)) ≤ length (k ∷ r) + length (event (at s0) (at s1) (S .marked) k r .marked)
-      fall = falls (length s0) (at s0) (at s1) (accepts-maps s0 s1 1 (S .underway .accepted)) (S .marked) k r (rw q at (S .underway .along))
+      fall = falls (length s0) (at s0) (at s1) (S .underway .mapped .maps) (S .marked) k r (rw q at (S .underway .along))
 
       go : (m : ℕ) → S .left ≡ m → 0 < m → Sofar s0 s1 root la′ od′ nx′ pv′ (e .given) (w ++ (e .item ∷ []))
       go zero i h = absurd (omega arith)
@@ -119,25 +120,18 @@ module _ (s0 s1 : List ℕ) (root : ℕ) (la od nx pv : List ℕ) (c : ℕ) (w :
   unfolding wordOf labels
   sofar-end e = (ap (λ (q : Labelled). q .word) (ended e), ap (λ (q : Labelled). q .marked) (ended e))
 
--- every edge is labelled, and every label is an edge's
-module _ (s0 s1 : List ℕ) (root : ℕ) (a : Accepts s0 s1 root) where
-  labels-done : Done (length s0) (at s0) (at s1) root (labels s0 s1 root)
-  unfolding labels
-  labels-done = done (length s0) (at s0) (at s1) (accepts-maps s0 s1 root a) root (a .root-in)
+-- every label is an edge's
+module _ (s0 s1 : List ℕ) (root : ℕ) (m : RootedMaps s0 s1 root) where
+  pub labels-edges : (j : ℕ) → OneTo (length (labels s0 s1 root)) j → OneTo (length s0) (edgeOf (labels s0 s1 root) j)
+  labels-edges j e = labels-done s0 s1 root m .inv .edges _ (edge-in (labels s0 s1 root) j e)
 
-  pub labels-whole : length (labels s0 s1 root) ≡ length s0
-  labels-whole = whole (length s0) (at s0) (at s1) (accepts-diagram s0 s1 root a) root (a .root-in) (labels s0 s1 root) labels-done
-
-  pub labels-edges : (j : ℕ) → OneTo (length s0) j → OneTo (length s0) (edgeOf (labels s0 s1 root) j)
-  labels-edges = edge-n (length s0) (at s0) (at s1) (accepts-diagram s0 s1 root a) root (a .root-in) (labels s0 s1 root) labels-done
-
-  pub labels-some : (la od : List ℕ) → LabelsHeld la od (length s0) (labels s0 s1 root) → SomeLabelsHeld la od (length s0)
-  labels-some la od h = record {
+  pub labels-some : (la od : List ℕ) (given : ℕ) → length s0 < length la → length s0 < length od → LabelsHeld la od given (labels s0 s1 root) → SomeLabelsHeld la od given
+  labels-some la od given l k h = record {
     edges = labels s0 s1 root;
     holds = h;
-    distinct = labels-done .inv .distinct;
-    small = λ x i. (let e = labels-done .inv .edges x i in let n = a .size in omega arith);
-    room = a .size .1;
+    distinct = labels-done s0 s1 root m .inv .distinct;
+    small = λ x i. (let e = labels-done s0 s1 root m .inv .edges x i in omega arith);
+    room = let i = labels-most s0 s1 root m in let e = h .given-is in omega arith;
   }
 
 -- ---- the items in a list: its first m places, before what it held
@@ -186,31 +180,29 @@ module _ (s0 s1 : List ℕ) (root : ℕ) (la od nx pv : List ℕ) (c : ℕ) (w a
         written = rw (F .written) (written-more a w m (e .item) (F .counted) (omega arith));
       }
 
-  pub filled-end : Accepts s0 s1 root → getD nx 0 0 ≡ 0 → WordWritten s0 s1 root la od nx pv a b m
-  filled-end A z = record {
+  filled-empty : getD nx 0 0 ≡ 0 → F .sofar .stack ≡ []
+  filled-empty z = sofar-empty s0 s1 root la od nx pv c w (F .sofar) z
+
+  pub filled-end : getD nx 0 0 ≡ 0 → WordWritten s0 s1 root la od a b m c
+  filled-end z = record {
     length-is = rw (end .0) (sym (F .counted));
     few = filled-few;
     word-is = rw (end .0) (F .written);
-    held = rw (end .1, size-is) (F .sofar .underway .holds);
-    none-pending = rw empty at (F .sofar .underway .ring);
+    held = rw (end .1) (F .sofar .underway .holds);
   }
     where
-      empty : F .sofar .stack ≡ []
-      empty = sofar-empty s0 s1 root la od nx pv c w (F .sofar) z
-
       end : (wordOf s0 s1 root ≡ w) × (labels s0 s1 root ≡ F .sofar .marked)
-      end = sofar-end s0 s1 root la od nx pv c w (F .sofar) empty
+      end = sofar-end s0 s1 root la od nx pv c w (F .sofar) (filled-empty z)
 
-      size-is : length s0 ≡ c
-      size-is = sym (F .sofar .underway .holds .given-is ∙ ap length (sym (end .1)) ∙ labels-whole s0 s1 root A)
+  pub filled-none-pending : getD nx 0 0 ≡ 0 → Ring nx pv []
+  filled-none-pending z = rw (filled-empty z) at (F .sofar .underway .ring)
 
 -- the list that the loop found had the first item already
-pub wrote-first : (s0 s1 : List ℕ) (root : ℕ) (la od nx pv a b : List ℕ) (v m : ℕ) → WordWritten s0 s1 root la od nx pv (set a 0 v) b m → WordWritten s0 s1 root la od nx pv a b m
+pub wrote-first : (s0 s1 : List ℕ) (root : ℕ) (la od a b : List ℕ) (v m given : ℕ) → WordWritten s0 s1 root la od (set a 0 v) b m given → WordWritten s0 s1 root la od a b m given
 unfolding wordOf label
-wrote-first s0 s1 root la od nx pv a b v m w = record {
+wrote-first s0 s1 root la od a b v m given w = record {
   length-is = w .length-is;
   few = w .few;
   word-is = rw (drop-set-lt m a 0 v (let e = w .length-is in omega arith)) at (w .word-is);
   held = w .held;
-  none-pending = w .none-pending;
 }

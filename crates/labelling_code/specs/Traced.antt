@@ -14,7 +14,7 @@ use Rattle.words.specs.Order.{precedes, same}
 use Rattle.pending_ring.specs.Ring.{Ring}
 use Rattle.labelling.specs.Labelling.{wordOf}
 use Rattle.labelling_code.specs.Scratch.{SomeLabelsHeld}
-use Rattle.labelling_code.specs.declared.tracing.Extent.{Extent}
+use Rattle.labelling_code.specs.declared.writing.Extent.{Extent}
 
 unfoldable pub continues : List ℕ → ℕ → ℕ → ℕ → Bool
 continues own i x top = cond (ltb i (length own)) (cond (eqb (getD own i 0) x) (ltb 0 top) false) false
@@ -25,6 +25,8 @@ pub record Traced (s0 s1 : List ℕ) (x : ℕ) (own c : List ℕ) : Type 0 where
   pub same-as : same c own ≡ same (wordOf s0 s1 x) own
 
 pub record Followed (s0 s1 : List ℕ) (x : ℕ) (own la od nx pv cand : List ℕ) (t : Extent) : Type 0 where
+  pub labels-long : length la ≡ 1025
+  pub order-long : length od ≡ 1025
   pub holds : SomeLabelsHeld la od (t .given)
   pub stack : List ℕ
   pub ring : Ring nx pv stack

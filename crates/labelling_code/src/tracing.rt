@@ -1,5 +1,6 @@
 // A rooting's word traced along another word, as far as the first item that differs: what the least rooting, the symmetries and the
 // comparison need of it. The arrays are left fit for the next rooting, at the cost of what was labelled.
+use crate::writing::Extent;
 use crate::writing::take_back;
 use labelling_events::begin;
 use labelling_events::event;
@@ -9,12 +10,6 @@ ghost use lib.ListN.{length, getD, take};
 ghost use Rattle.diagrams.specs.Check.{Accepts};
 ghost use Rattle.labelling_code.specs.Scratch.{Ready};
 ghost use Rattle.labelling_code.specs.Traced.{continues, Traced, Followed};
-
-// How many items were written, and how many labels given meanwhile.
-struct Extent {
-    pub len: usize,
-    pub given: u16,
-}
 
 // Whether the trace goes on after the item at place i.
 fn continues(own: &[u16], i: usize, item: u16, next: &[u16; 1025]) -> bool

@@ -9,25 +9,33 @@ ghost use Prim.Native.Nat.{ℕ, suc, _<_, _≤_};
 ghost use lib.ListN.{length, take, drop};
 ghost use Rattle.lists.specs.Lists.{at, tabulate};
 ghost use Rattle.lists.specs.Ranges.{OneTo};
-ghost use Rattle.diagrams.specs.Check.{Accepts, Entries};
+ghost use Rattle.diagrams.specs.Check.{Accepts, RootedMaps, Entries};
+ghost use Rattle.pending_ring.specs.Ring.{Ring};
 ghost use Rattle.labelling.specs.Labelling.{edgeOf, relabel, wordOf};
 ghost use Rattle.labelling_code.specs.Scratch.{LabelsHeld, SomeLabelsHeld, Ready, WordWritten};
 
-// Labels the whole diagram from its root and writes the word. Returns the word's length.
+// How many items were written, and how many labels given meanwhile.
+pub struct Extent {
+    pub len: usize,
+    pub given: u16,
+}
+
+// Labels what is reached from the root and writes the word.
 pub fn write_word(
     s0: &[u16],
     s1: &[u16],
-    labels: &mut [u16; 1025],
-    order: &mut [u16; 1025],
+    labels: &mut [u16],
+    order: &mut [u16],
     next: &mut [u16; 1025],
     prev: &mut [u16; 1025],
     root: u16,
     word: &mut [u16],
-) -> usize
-    requires { ⌜ Accepts (now s0) (now s1) root ⌝ }
-    requires { ⌜ Ready (now labels) (now order) (now next) (now prev) ⌝ }
-    requires { ⌜ length (now s0) < length (now word) ⌝ }
-    ensures { λ m. ⌜ WordWritten (now (s0 .entry)) (now (s1 .entry)) root (now (labels .exit)) (now (order .exit)) (now (next .exit)) (now (prev .exit)) (now (word .entry)) (now (word .exit)) m ⌝ }
+) -> Extent
+    requires { ⌜ RootedMaps (now s0) (now s1) root ⌝ }
+    requires { ⌜ LabelsHeld (now labels) (now order) 0 [] × Ring (now next) (now prev) [] ⌝ }
+    requires { ⌜ (length (now s0) < length (now labels)) × (length (now s0) < length (now order)) × (length (now s0) < length (now word)) ⌝ }
+    ensures written { λ t. ⌜ WordWritten (now (s0 .entry)) (now (s1 .entry)) root (now (labels .exit)) (now (order .exit)) (now (word .entry)) (now (word .exit)) (t .len) (t .given) ⌝ }
+    ensures empty { λ _. ⌜ Ring (now (next .exit)) (now (prev .exit)) [] ⌝ }
 {
     let first = begin(s0, labels, order, next, prev, root);
     word[0] = first.item;
@@ -39,11 +47,11 @@ pub fn write_word(
         given = done.given;
         len += 1;
     }
-    len
+    Extent { len, given }
 }
 
 // Takes the labels back, the last given first.
-pub(crate) fn take_back(labels: &mut [u16; 1025], order: &[u16; 1025], given: u16)
+pub(crate) fn take_back(labels: &mut [u16], order: &[u16], given: u16)
     requires { ⌜ SomeLabelsHeld (now labels) (now order) given ⌝ }
     ensures { λ _. ⌜ LabelsHeld (now (labels .exit)) (now (order .entry)) 0 [] ⌝ }
 {
@@ -73,14 +81,14 @@ pub fn own_word(
     ensures word { λ m. ⌜ take m (now (word .exit)) ≡ wordOf (now (s0 .entry)) (now (s1 .entry)) root ⌝ }
     ensures ready { λ _. ⌜ Ready (now (labels .exit)) (now (order .exit)) (now (next .exit)) (now (prev .exit)) ⌝ }
 {
-    let m = write_word(s0, s1, labels, order, next, prev, root, word);
-    take_back(labels, order, s0.len() as u16);
-    m
+    let t = write_word(s0, s1, labels, order, next, prev, root, word);
+    take_back(labels, order, t.given);
+    t.len
 }
 
 // Writes the list s, seen through the labels, into the first places of t.
-pub fn write_list(s: &[u16], labels: &[u16; 1025], order: &[u16; 1025], t: &mut [u16])
-    requires { ⌜ (length (now s) ≤ 1024) × (length (now s) ≤ length (now t)) × Entries (length (now s)) (now s) ⌝ }
+pub fn write_list(s: &[u16], labels: &[u16], order: &[u16], t: &mut [u16])
+    requires { ⌜ (length (now s) < length (now labels)) × (length (now s) < length (now order)) × (length (now s) ≤ length (now t)) × Entries (length (now s)) (now s) ⌝ }
     requires { ⌜ ((o : List ℕ) × LabelsHeld (now labels) (now order) (length (now s)) o × ((j : ℕ) → OneTo (length (now s)) j → OneTo (length (now s)) (edgeOf o j))) ⌝ }
     ensures { λ _. ⌜ ((o : List ℕ) → LabelsHeld (now (labels .entry)) (now (order .entry)) (length (now (s .entry))) o
         → now (t .exit) ≡ tabulate (relabel o (at (now (s .entry)))) (length (now (s .entry))) ++ drop (length (now (s .entry))) (now (t .entry))) ⌝ }

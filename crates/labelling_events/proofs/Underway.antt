@@ -9,21 +9,14 @@ use Rattle.lists.specs.Lists.{at, Has, find, removeAt}
 use Rattle.lists.specs.Ranges.{OneTo}
 use Rattle.lists.proofs.Tests.{eqb-same, eqb-ne}
 use Rattle.diagrams.specs.Diagram.{Maps}
-use Rattle.diagrams.specs.Check.{Accepts}
-use Rattle.diagrams.proofs.Checks.{accepts-maps}
+use Rattle.diagrams.specs.Check.{RootedMaps}
 use Rattle.pending_ring.specs.Ring.{Ring}
 use Rattle.labelling.specs.Labelling.{Event, event, LabellingInvariant}
 use Rattle.labelling.proofs.Along.{View, is-W, is-J, is-B, is-F, view, next, size}
 use Rattle.labelling.proofs.Labels.{inv-U, inv-T}
-use Rattle.labelling.proofs.Rootings.{accepts-rerooted}
 use Rattle.labelling.proofs.Moves.{move-W, move-J, move-B, move-F}
 use Rattle.labelling_events.specs.Scratch.{LabelsHeld, Underway, firstEventOf, EventDone}
 use Rattle.labelling_arrays.proofs.Arrays.{lab-none, lab-zero}
-
--- ---- accepted diagrams
-
-pub accepts-small : (s0 s1 : List ℕ) (r x : ℕ) → Accepts s0 s1 r → OneTo (length s0) x → OneTo 1024 x
-accepts-small s0 s1 r x a e = let i = a .size in omega arith
 
 -- ---- the event of the popped edge k
 
@@ -32,16 +25,16 @@ module _ (s0 s1 la od nx pv : List ℕ) (c : ℕ) (o : List ℕ) (k : ℕ) (r : 
   p = at s1 k
 
   maps : Maps (length s0) (at s0) (at s1)
-  maps = accepts-maps s0 s1 1 (u .accepted)
+  maps = u .mapped .maps
 
   pub popped-edge : OneTo (length s0) k
   popped-edge = u .along .edges k (u .along .pending k (inl refl))
 
   pub partner-edge : OneTo (length s0) p
-  partner-edge = u .accepted .whites k popped-edge
+  partner-edge = maps .white-in k popped-edge
 
-  pub partner-small : p < 1025
-  partner-small = let i = partner-edge in let j = u .accepted .size in omega arith
+  pub partner-small : p < length la
+  partner-small = let i = partner-edge in let j = u .labels-long in omega arith
 
   invariant-after-event : LabellingInvariant (length s0) (at s0) (at s1) (event (at s0) (at s1) o k r .marked) (event (at s0) (at s1) o k r .stack)
   invariant-after-event = next (length s0) (at s0) (at s1) maps o k r (u .along)
@@ -59,31 +52,33 @@ module _ (s0 s1 la od nx pv : List ℕ) (c : ℕ) (o : List ℕ) (k : ℕ) (r : 
   fresh : getD la p 0 ≡ 0 → ¬ Has p o
   fresh b = lab-zero o p (sym (u .holds .label-of p) ∙ b)
 
-  did : (v : Event) (la′ od′ nx′ pv′ : List ℕ) (x c′ : ℕ) → event (at s0) (at s1) o k r ≡ v → x ≡ v .item → LabelsHeld la′ od′ c′ (v .marked) → Ring nx′ pv′ (v .stack)
+  did : (v : Event) (la′ od′ nx′ pv′ : List ℕ) (x c′ : ℕ) → event (at s0) (at s1) o k r ≡ v → length la′ ≡ length la → length od′ ≡ length od → x ≡ v .item → LabelsHeld la′ od′ c′ (v .marked) → Ring nx′ pv′ (v .stack)
       → EventDone s0 s1 la′ od′ nx′ pv′ (event (at s0) (at s1) o k r) (record { item = x; given = c′ })
-  did v la′ od′ nx′ pv′ x c′ e i h q = record { item-is = rw e i; leaves = record { accepted = u .accepted; along = invariant-after-event; holds = rw e h; ring = rw e q } }
+  did v la′ od′ nx′ pv′ x c′ e l m i h q = record {
+    item-is = rw e i;
+    leaves = record { mapped = u .mapped; labels-long = rw l (u .labels-long); order-long = rw m (u .order-long); along = invariant-after-event; holds = rw e h; ring = rw e q };
+  }
 
   pub did-W : (nx′ pv′ : List ℕ) → p ≡ k → Ring nx′ pv′ r → EventDone s0 s1 la od nx′ pv′ (event (at s0) (at s1) o k r) (record { item = 0; given = c })
-  did-W nx′ pv′ a q = did _ la od nx′ pv′ 0 c (move-W (at s0) (at s1) o k r p refl a) refl (u .holds) q
+  did-W nx′ pv′ a q = did _ la od nx′ pv′ 0 c (move-W (at s0) (at s1) o k r p refl a) refl refl refl (u .holds) q
 
   pub did-J : (nx′ pv′ : List ℕ) (x : ℕ) → p ≢ k → getD la p 0 ≢ 0 → x ≡ suc (suc (suc (find p r))) → Ring nx′ pv′ (removeAt (find p r) r)
       → EventDone s0 s1 la od nx′ pv′ (event (at s0) (at s1) o k r) (record { item = x; given = c })
-  did-J nx′ pv′ x a b e q = did _ la od nx′ pv′ x c (move-J (at s0) (at s1) o k r p refl a (u .along .pending p (inr (partner-pending a b)))) e (u .holds) q
+  did-J nx′ pv′ x a b e q = did _ la od nx′ pv′ x c (move-J (at s0) (at s1) o k r p refl a (u .along .pending p (inr (partner-pending a b)))) refl refl e (u .holds) q
 
   -- B: one label is left
   event-B : p ≢ k → getD la p 0 ≡ 0 → at s0 p ≡ p → event (at s0) (at s1) o k r ≡ record { item = 2; marked = p ∷ o; stack = r }
   event-B a b e = move-B (at s0) (at s1) o k r p refl a (fresh b) e
 
-  pub event-B-room : p ≢ k → getD la p 0 ≡ 0 → at s0 p ≡ p → c < 1024
+  pub event-B-room : p ≢ k → getD la p 0 ≡ 0 → at s0 p ≡ p → c < length s0
   event-B-room a b e =
       let i = size (length s0) (at s0) (at s1) maps _ _ (rw (event-B a b e) at invariant-after-event) in
-      let j = u .accepted .size in
       let l = u .holds .given-is in
       omega arith
 
-  pub did-B : (la′ od′ nx′ pv′ : List ℕ) (c′ : ℕ) → p ≢ k → getD la p 0 ≡ 0 → at s0 p ≡ p → LabelsHeld la′ od′ c′ (p ∷ o) → Ring nx′ pv′ r
+  pub did-B : (la′ od′ nx′ pv′ : List ℕ) (c′ : ℕ) → length la′ ≡ length la → length od′ ≡ length od → p ≢ k → getD la p 0 ≡ 0 → at s0 p ≡ p → LabelsHeld la′ od′ c′ (p ∷ o) → Ring nx′ pv′ r
       → EventDone s0 s1 la′ od′ nx′ pv′ (event (at s0) (at s1) o k r) (record { item = 2; given = c′ })
-  did-B la′ od′ nx′ pv′ c′ a b e h q = did _ la′ od′ nx′ pv′ 2 c′ (event-B a b e) refl h q
+  did-B la′ od′ nx′ pv′ c′ l m a b e h q = did _ la′ od′ nx′ pv′ 2 c′ (event-B a b e) l m refl h q
 
   -- F: three labels are left, and the next two edges round the vertex are not pending
   fork : p ≢ k → getD la p 0 ≡ 0 → at s0 p ≢ p
@@ -93,39 +88,44 @@ module _ (s0 s1 la od nx pv : List ℕ) (c : ℕ) (o : List ℕ) (k : ℕ) (r : 
   forked : p ≢ k → getD la p 0 ≡ 0 → at s0 p ≢ p → LabellingInvariant (length s0) (at s0) (at s1) (at s0 (at s0 p) ∷ at s0 p ∷ p ∷ o) (at s0 (at s0 p) ∷ at s0 p ∷ r)
   forked a b e = rw (fork a b e) at invariant-after-event
 
-  pub fork-room : p ≢ k → getD la p 0 ≡ 0 → at s0 p ≢ p → c + 3 ≤ 1024
+  pub fork-room : p ≢ k → getD la p 0 ≡ 0 → at s0 p ≢ p → c + 3 ≤ length s0
   fork-room a b e =
       let i = size (length s0) (at s0) (at s1) maps _ _ (forked a b e) in
-      let j = u .accepted .size in
       let l = u .holds .given-is in
       omega arith
 
   pub fork-new : p ≢ k → getD la p 0 ≡ 0 → at s0 p ≢ p → (¬ Has (at s0 p) r) × (¬ Has (at s0 (at s0 p)) (at s0 p ∷ r))
   fork-new a b e = (forked a b e .stacked .1 .0, forked a b e .stacked .0)
 
-  pub did-F : (la′ od′ nx′ pv′ : List ℕ) (c′ : ℕ) → p ≢ k → getD la p 0 ≡ 0 → at s0 p ≢ p → LabelsHeld la′ od′ c′ (at s0 (at s0 p) ∷ at s0 p ∷ p ∷ o) → Ring nx′ pv′ (at s0 (at s0 p) ∷ at s0 p ∷ r)
+  pub did-F : (la′ od′ nx′ pv′ : List ℕ) (c′ : ℕ) → length la′ ≡ length la → length od′ ≡ length od → p ≢ k → getD la p 0 ≡ 0 → at s0 p ≢ p → LabelsHeld la′ od′ c′ (at s0 (at s0 p) ∷ at s0 p ∷ p ∷ o) → Ring nx′ pv′ (at s0 (at s0 p) ∷ at s0 p ∷ r)
       → EventDone s0 s1 la′ od′ nx′ pv′ (event (at s0) (at s1) o k r) (record { item = 1; given = c′ })
-  did-F la′ od′ nx′ pv′ c′ a b e h q = did _ la′ od′ nx′ pv′ 1 c′ (fork a b e) refl h q
+  did-F la′ od′ nx′ pv′ c′ l m a b e h q = did _ la′ od′ nx′ pv′ 1 c′ (fork a b e) l m refl h q
 
 -- ---- the first event
 
-module _ (s0 s1 : List ℕ) (r : ℕ) (a : Accepts s0 s1 r) where
-  start : (v : Event) (la od nx pv : List ℕ) (x c : ℕ) → firstEventOf s0 r ≡ v → LabellingInvariant (length s0) (at s0) (at s1) (v .marked) (v .stack)
-      → x ≡ v .item → LabelsHeld la od c (v .marked) → Ring nx pv (v .stack) → EventDone s0 s1 la od nx pv (firstEventOf s0 r) (record { item = x; given = c })
-  start v la od nx pv x c e i j h q =
-      let s = a .size in
-      record { item-is = rw e j; leaves = record { accepted = accepts-rerooted s0 s1 r a 1 (omega arith); along = rw e i; holds = rw e h; ring = rw e q } }
+module _ (s0 s1 : List ℕ) (r : ℕ) (a : RootedMaps s0 s1 r) where
+  root-maps : Maps (length s0) (at s0) (at s1)
+  root-maps = a .mapped .maps
 
-  pub did-U : (la od nx pv : List ℕ) (c : ℕ) → at s0 r ≡ r → LabelsHeld la od c (r ∷ []) → Ring nx pv (r ∷ [])
+  start : (v : Event) (la od nx pv : List ℕ) (x c : ℕ) → firstEventOf s0 r ≡ v → LabellingInvariant (length s0) (at s0) (at s1) (v .marked) (v .stack)
+      → length s0 < length la → length s0 < length od → x ≡ v .item → LabelsHeld la od c (v .marked) → Ring nx pv (v .stack)
+      → EventDone s0 s1 la od nx pv (firstEventOf s0 r) (record { item = x; given = c })
+  start v la od nx pv x c e i l m j h q = record { item-is = rw e j; leaves = record { mapped = a .mapped; labels-long = l; order-long = m; along = rw e i; holds = rw e h; ring = rw e q } }
+
+  pub did-U : (la od nx pv : List ℕ) (c : ℕ) → length s0 < length la → length s0 < length od → at s0 r ≡ r → LabelsHeld la od c (r ∷ []) → Ring nx pv (r ∷ [])
       → EventDone s0 s1 la od nx pv (firstEventOf s0 r) (record { item = 0; given = c })
-  did-U la od nx pv c e h q = start (record { item = 0; marked = r ∷ []; stack = r ∷ [] }) la od nx pv 0 c (rw (e, eqb-same r)) (inv-U (length s0) (at s0) (at s1) (accepts-maps s0 s1 r a) r (a .root-in) e) refl h q
+  did-U la od nx pv c l m e h q = start (record { item = 0; marked = r ∷ []; stack = r ∷ [] }) la od nx pv 0 c (rw (e, eqb-same r)) (inv-U (length s0) (at s0) (at s1) root-maps r (a .root-in) e) l m refl h q
 
   begun : at s0 r ≢ r → LabellingInvariant (length s0) (at s0) (at s1) (at s0 (at s0 r) ∷ at s0 r ∷ r ∷ []) (at s0 (at s0 r) ∷ at s0 r ∷ r ∷ [])
-  begun e = inv-T (length s0) (at s0) (at s1) (accepts-maps s0 s1 r a) r (a .root-in) e
+  begun e = inv-T (length s0) (at s0) (at s1) root-maps r (a .root-in) e
 
   pub root-new : at s0 r ≢ r → (¬ Has (at s0 r) (r ∷ [])) × (¬ Has (at s0 (at s0 r)) (at s0 r ∷ r ∷ []))
   root-new e = (begun e .stacked .1 .0, begun e .stacked .0)
 
-  pub did-T : (la od nx pv : List ℕ) (c : ℕ) → at s0 r ≢ r → LabelsHeld la od c (at s0 (at s0 r) ∷ at s0 r ∷ r ∷ []) → Ring nx pv (at s0 (at s0 r) ∷ at s0 r ∷ r ∷ [])
+  -- the root's vertex has three edges
+  pub root-room : at s0 r ≢ r → 3 ≤ length s0
+  root-room e = size (length s0) (at s0) (at s1) root-maps _ _ (begun e)
+
+  pub did-T : (la od nx pv : List ℕ) (c : ℕ) → length s0 < length la → length s0 < length od → at s0 r ≢ r → LabelsHeld la od c (at s0 (at s0 r) ∷ at s0 r ∷ r ∷ []) → Ring nx pv (at s0 (at s0 r) ∷ at s0 r ∷ r ∷ [])
       → EventDone s0 s1 la od nx pv (firstEventOf s0 r) (record { item = 1; given = c })
-  did-T la od nx pv c e h q = start (record { item = 1; marked = at s0 (at s0 r) ∷ at s0 r ∷ r ∷ []; stack = at s0 (at s0 r) ∷ at s0 r ∷ r ∷ [] }) la od nx pv 1 c (rw (eqb-ne (at s0 r) r e)) (begun e) refl h q
+  did-T la od nx pv c l m e h q = start (record { item = 1; marked = at s0 (at s0 r) ∷ at s0 r ∷ r ∷ []; stack = at s0 (at s0 r) ∷ at s0 r ∷ r ∷ [] }) la od nx pv 1 c (rw (eqb-ne (at s0 r) r e)) (begun e) l m refl h q

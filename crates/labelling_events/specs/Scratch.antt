@@ -5,23 +5,26 @@
 --   Underway s0 s1 la od nx pv given o st      the labelling of the diagram s0, s1 stands at o and st, and the arrays hold it
 --   firstEventOf s0 root                       the labelling's first event
 --   EventDone s0 s1 la od nx pv v e            the arrays hold what the event v left; e is its item and the number of labels given
---   WordWritten s0 s1 root la od nx pv a b m   a whole labelling: its word, of length m, is written into the list a, now b, and its labels are held
+--   WordWritten s0 s1 root la od a b m given   a whole labelling: its word, of length m, is written into the list a, now b, and the labels
+--                                              given are held, one for each edge that is reached from the root
 -- and from labelling_arrays: LabelsHeld, SomeLabelsHeld, Ready.
 use mathlib.Core.Path.{_≡_}
-use mathlib.Core.List.{List, [], _++_}
-use Prim.Native.Nat.{ℕ, suc, _≤_}
+use mathlib.Core.List.{List, _++_}
+use Prim.Native.Nat.{ℕ, suc, _≤_, _<_}
 use lib.Dec.{eqb}
 use lib.ListN.{length, drop}
 use Rattle.lists.specs.Lists.{at}
-use Rattle.diagrams.specs.Check.{Accepts}
+use Rattle.diagrams.specs.Check.{Mapped}
 use Rattle.pending_ring.specs.Ring.{Ring}
 use Rattle.labelling.specs.Labelling.{Event, LabellingInvariant, firstEvent, labels, wordOf}
 pub use Rattle.labelling_arrays.specs.Labels.{LabelsHeld, SomeLabelsHeld, Ready}
 use Rattle.labelling_events.specs.declared.EventItem.{EventItem}
 
--- a diagram that is accepted with any root is accepted with root 1
+-- the lists are maps; that every edge is reached from the root is not asked
 pub record Underway (s0 s1 la od nx pv : List ℕ) (given : ℕ) (o st : List ℕ) : Type 0 where
-  pub accepted : Accepts s0 s1 1
+  pub mapped : Mapped s0 s1
+  pub labels-long : length s0 < length la
+  pub order-long : length s0 < length od
   pub along : LabellingInvariant (length s0) (at s0) (at s1) o st
   pub holds : LabelsHeld la od given o
   pub ring : Ring nx pv st
@@ -35,9 +38,8 @@ pub record EventDone (s0 s1 la od nx pv : List ℕ) (v : Event) (e : EventItem) 
   pub leaves : Underway s0 s1 la od nx pv (e .given) (v .marked) (v .stack)
 
 -- the word stands before what the list held
-pub record WordWritten (s0 s1 : List ℕ) (root : ℕ) (la od nx pv a b : List ℕ) (m : ℕ) : Type 0 where
+pub record WordWritten (s0 s1 : List ℕ) (root : ℕ) (la od a b : List ℕ) (m given : ℕ) : Type 0 where
   pub length-is : m ≡ length (wordOf s0 s1 root)
   pub few : m ≤ suc (length s0)
   pub word-is : b ≡ wordOf s0 s1 root ++ drop m a
-  pub held : LabelsHeld la od (length s0) (labels s0 s1 root)
-  pub none-pending : Ring nx pv []
+  pub held : LabelsHeld la od given (labels s0 s1 root)

@@ -1,16 +1,19 @@
 // The labelling of a diagram, event by event, in lent arrays: `labels` (the label of each edge, 0 where it has none), `order` (the edge
-// of each label) and the pending ring, which holds edges. Nothing of the size limit is cleared or copied for one labelling.
+// of each label) and the pending ring, which holds edges. Nothing of the size limit is cleared or copied for one labelling. The lists need
+// only be maps: what is not reached from the root gets no label.
 use labelling_arrays::add_triple;
 use labelling_arrays::follow;
 use labelling_arrays::give_label;
 use labelling_arrays::join_pending;
 use lists::to_index;
-ghost use mathlib.Core.List.{List, _∷_};
-ghost use Prim.Native.Nat.{ℕ};
+ghost use mathlib.Core.List.{List, [], _∷_};
+ghost use Prim.Native.Nat.{ℕ, _<_};
+ghost use lib.ListN.{length};
 ghost use Rattle.lists.specs.Lists.{at};
-ghost use Rattle.diagrams.specs.Check.{Accepts};
+ghost use Rattle.diagrams.specs.Check.{RootedMaps};
+ghost use Rattle.pending_ring.specs.Ring.{Ring};
 ghost use Rattle.labelling.specs.Labelling.{event};
-ghost use Rattle.labelling_events.specs.Scratch.{Underway, firstEventOf, EventDone, Ready};
+ghost use Rattle.labelling_events.specs.Scratch.{LabelsHeld, Underway, firstEventOf, EventDone};
 
 // An event's item, and how many labels are given after it.
 pub struct EventItem {
@@ -21,15 +24,16 @@ pub struct EventItem {
 // The first event, from the root: U or T.
 pub fn begin(
     s0: &[u16],
-    labels: &mut [u16; 1025],
-    order: &mut [u16; 1025],
+    labels: &mut [u16],
+    order: &mut [u16],
     next: &mut [u16; 1025],
     prev: &mut [u16; 1025],
     root: u16,
 ) -> EventItem
-    requires { ⌜ ((s1 : List ℕ) × Accepts (now s0) s1 root) ⌝ }
-    requires { ⌜ Ready (now labels) (now order) (now next) (now prev) ⌝ }
-    ensures { λ e. ⌜ ((s1 : List ℕ) → Accepts (now (s0 .entry)) s1 root
+    requires { ⌜ ((s1 : List ℕ) × RootedMaps (now s0) s1 root) ⌝ }
+    requires { ⌜ LabelsHeld (now labels) (now order) 0 [] × Ring (now next) (now prev) [] ⌝ }
+    requires { ⌜ (length (now s0) < length (now labels)) × (length (now s0) < length (now order)) ⌝ }
+    ensures { λ e. ⌜ ((s1 : List ℕ) → RootedMaps (now (s0 .entry)) s1 root
         → EventDone (now (s0 .entry)) s1 (now (labels .exit)) (now (order .exit)) (now (next .exit)) (now (prev .exit)) (firstEventOf (now (s0 .entry)) root) e) ⌝ }
 {
     let q = follow(s0, root);
@@ -47,8 +51,8 @@ pub fn begin(
 pub fn event(
     s0: &[u16],
     s1: &[u16],
-    labels: &mut [u16; 1025],
-    order: &mut [u16; 1025],
+    labels: &mut [u16],
+    order: &mut [u16],
     next: &mut [u16; 1025],
     prev: &mut [u16; 1025],
     given: u16,

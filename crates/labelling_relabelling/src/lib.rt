@@ -34,7 +34,7 @@ pub fn write_relabelled(
     let mut order = [0u16; 1025];
     let mut next = [0u16; 1025];
     let mut prev = [0u16; 1025];
-    let m = write_word(
+    let t = write_word(
         s0,
         s1,
         &mut labels,
@@ -46,7 +46,7 @@ pub fn write_relabelled(
     );
     write_list(s0, &labels, &order, t0);
     write_list(s1, &labels, &order, t1);
-    m
+    t.len
 }
 
 // An accepted diagram's characteristic labelling by value, with root 1.

@@ -1,4 +1,4 @@
--- `give` meets its contract: the two stores are the law `holds-give`.
+-- `give_label` meets its contract: the two stores are the law `holds-give`.
 use borrow.Author.Needs.{needs}
 use mathlib.Core.Path.{refl}
 use Rattle.labelling_arrays.proofs.Arrays.{holds-give}
@@ -17,14 +17,20 @@ to-index-requires-2 c κs = search needs
 mul-labels : tie.Need-mul-labels
 mul-labels c = search needs
 
-element-write-labels : tie.Need-element-write-labels
-element-write-labels c = search needs
+slice-write-labels : tie.Need-slice-write-labels
+slice-write-labels c = search needs
 
 mul-order : tie.Need-mul-order
 mul-order c = search needs
 
-element-write-order : tie.Need-element-write-order
-element-write-order c = search needs
+slice-write-order : tie.Need-slice-write-order
+slice-write-order c = search needs
+
+same-length : tie.Need-same-length
+same-length c = search needs
+
+same-length-2 : tie.Need-same-length-2
+same-length-2 c = search needs
 
 returns : tie.Need-returns
 returns c = (refl, λ o h. rw (c .before .to-index .ensures, c .to-index2 .ensures) (holds-give _ _ _ _ o (search needs) (search needs) h))
@@ -37,7 +43,9 @@ give-label-spec =
     to-index-requires
     to-index-requires-2
     mul-labels
-    element-write-labels
+    slice-write-labels
     mul-order
-    element-write-order
+    slice-write-order
+    same-length
+    same-length-2
     returns)

@@ -21,23 +21,24 @@ abbrev μ-loop : tie.MeasureT-loop
 μ-loop s labels order t₀ n j₀ t j = n - j
 
 -- the edge of the next label
-edge-in : (c : tie.In-loop Inv-loop μ-loop) → OneTo (length (now (c .before .before .before .before .args .s))) (getD (now (c .before .before .before .before .args .order)) (c .before .loop .j + 1) 0)
+edge-in : (c : tie.In-loop Inv-loop μ-loop) → OneTo (length (now (c .before .before .before .before .before .before .args .s))) (getD (now (c .before .before .before .before .before .before .args .order)) (c .before .loop .j + 1) 0)
 edge-in c =
-    let (o, h, e) = c .before .before .before .before .pre .1 in
+    let (o, h, e) = c .before .before .before .before .before .before .pre .1 in
     let l = h .given-is in
     rw (h .edge-of (c .before .loop .j + 1) (omega arith)) (e (c .before .loop .j + 1) (omega arith))
 
 -- the index of its image's label
-image : (c : tie.After-to-index Inv-loop μ-loop) → c .to-index .result ≡ at (now (c .before .before .before .before .before .before .before .args .s)) (getD (now (c .before .before .before .before .before .before .before .args .order)) (c .before .before .before .before .loop .j + 1) 0)
+image : (c : tie.After-to-index Inv-loop μ-loop) → c .to-index .result ≡ at (now (c .before .before .before .before .before .before .before .before .before .args .s)) (getD (now (c .before .before .before .before .before .before .before .before .before .args .order)) (c .before .before .before .before .loop .j + 1) 0)
 image c = c .to-index .ensures ∙ c .before .follow .ensures
 
-image-small : (c : tie.After-to-index Inv-loop μ-loop) → c .to-index .result < 1025
-image-small c = rw (image c) (let e = c .before .before .before .before .before .before .before .pre .0 .2 _ (edge-in (c .before .before .before)) in let n = c .before .before .before .before .before .before .before .pre .0 .0 in omega arith)
+image-small : (c : tie.After-to-index Inv-loop μ-loop) → c .to-index .result < length (now (c .before .before .before .before .before .before .before .before .before .args .labels))
+image-small c = rw (image c) (let e = c .before .before .before .before .before .before .before .before .before .pre .0 .3 _ (edge-in (c .before .before .before)) in let n = c .before .before .before .before .before .before .before .before .before .pre .0 .0 in omega arith)
 
-length-kept : (c : tie.At-loop Inv-loop μ-loop) → length (c .loop .t) ≡ length (now (c .before .before .before .args .t))
+length-kept : (c : tie.At-loop Inv-loop μ-loop) → length (c .loop .t) ≡ length (now (c .before .before .before .before .before .args .t))
 length-kept c =
-    let (o, h, e) = c .before .before .before .pre .1 in
-    rw (c .loop .inv .2 o h) (listed-length (relabel o (at (now (c .before .before .before .args .s)))) (now (c .before .before .before .args .t)) (c .loop .j) (search needs))
+    let (o, h, e) = c .before .before .before .before .before .pre .1 in
+    let n = c .before .before .before .before .before .pre .0 .2 in
+    rw (c .loop .inv .2 o h) (listed-length (relabel o (at (now (c .before .before .before .before .before .args .s)))) (now (c .before .before .before .before .before .args .t)) (c .loop .j) (omega arith))
 
 loop-holds : tie.Need-loop-holds Inv-loop μ-loop
 loop-holds c = (refl, search needs, λ o h. refl)
@@ -46,10 +47,10 @@ add-follow : tie.Need-add-follow Inv-loop μ-loop
 add-follow c = search needs
 
 mul-follow : tie.Need-mul-follow Inv-loop μ-loop
-mul-follow c = search needs
+mul-follow c = let n = c .before .before .before .before .before .before .pre .0 .1 in let g = c .before .before .before .before .before .before .good in omega arith
 
-element-copy-out-follow : tie.Need-element-copy-out-follow Inv-loop μ-loop
-element-copy-out-follow c = search needs
+shared-slice-read-follow : tie.Need-shared-slice-read-follow Inv-loop μ-loop
+shared-slice-read-follow c = let n = c .before .before .before .before .before .before .before .pre .0 .1 in omega arith
 
 follow-requires : tie.Need-follow-requires Inv-loop μ-loop
 follow-requires c κs = edge-in (c .before)
@@ -58,16 +59,16 @@ to-index-requires : tie.Need-to-index-requires Inv-loop μ-loop
 to-index-requires c κs = search needs
 
 mul-t : tie.Need-mul-t Inv-loop μ-loop
-mul-t c = let i = image-small c in search needs
+mul-t c = let i = image-small c in let g = c .before .before .before .before .before .before .before .before .before .good in omega arith
 
-element-copy-out-t : tie.Need-element-copy-out-t Inv-loop μ-loop
-element-copy-out-t c = image-small c
+shared-slice-read-t : tie.Need-shared-slice-read-t Inv-loop μ-loop
+shared-slice-read-t c = image-small (c .before)
 
 mul-t-2 : tie.Need-mul-t-2 Inv-loop μ-loop
 mul-t-2 c = search needs
 
 slice-write-t : tie.Need-slice-write-t Inv-loop μ-loop
-slice-write-t c = let i = length-kept (c .before .before .before .before .before) in omega arith
+slice-write-t c = let i = length-kept (c .before .before .before .before .before) in let n = c .before .before .before .before .before .before .before .before .before .before .pre .0 .2 in omega arith
 
 add-j : tie.Need-add-j Inv-loop μ-loop
 add-j c = search needs
@@ -80,15 +81,15 @@ loop-again c = (
   refl,
   search needs,
   λ o h.
-      rw (c .before .before .before .before .before .loop .inv .2 o h, image (c .before), seen (now (c .before .before .before .before .before .before .before .before .args .s)) (now (c .before .before .before .before .before .before .before .before .args .labels)) (now (c .before .before .before .before .before .before .before .before .args .order)) o (c .before .before .before .before .before .loop .j) h (search needs))
-      (listed-more (relabel o (at (now (c .before .before .before .before .before .before .before .before .args .s)))) (now (c .before .before .before .before .before .before .before .before .args .t)) (c .before .before .before .before .before .loop .j) (search needs)),
+      rw (c .before .before .before .before .before .loop .inv .2 o h, image (c .before), seen (now (c .before .before .before .before .before .before .before .before .before .before .args .s)) (now (c .before .before .before .before .before .before .before .before .before .before .args .labels)) (now (c .before .before .before .before .before .before .before .before .before .before .args .order)) o (c .before .before .before .before .before .loop .j) h (search needs))
+      (listed-more (relabel o (at (now (c .before .before .before .before .before .before .before .before .before .before .args .s)))) (now (c .before .before .before .before .before .before .before .before .before .before .args .t)) (c .before .before .before .before .before .loop .j) (let n = c .before .before .before .before .before .before .before .before .before .before .pre .0 .2 in omega arith)),
 )
 
 same-length : tie.Need-same-length Inv-loop μ-loop
 same-length c = length-kept (c .before)
 
 returns : tie.Need-returns Inv-loop μ-loop
-returns c = λ o h. let e : c .before .loop .j ≡ length (now (c .before .before .before .before .args .s)) = omega arith in c .before .loop .inv .2 o h ∙ rw e
+returns c = λ o h. let e : c .before .loop .j ≡ length (now (c .before .before .before .before .before .before .args .s)) = omega arith in c .before .loop .inv .2 o h ∙ rw e
 
 pub write-list-spec : {M : Type 1} → statement M
 write-list-spec =
@@ -99,11 +100,11 @@ write-list-spec =
     loop-holds
     add-follow
     mul-follow
-    element-copy-out-follow
+    shared-slice-read-follow
     follow-requires
     to-index-requires
     mul-t
-    element-copy-out-t
+    shared-slice-read-t
     mul-t-2
     slice-write-t
     add-j

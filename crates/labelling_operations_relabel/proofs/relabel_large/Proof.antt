@@ -1,9 +1,9 @@
--- `relabel` meets its contract: what check refuses is refused, and the rest relabelled.
+-- `relabel_large` meets its contract: what check refuses is refused, and the rest relabelled.
 use borrow.Author.Needs.{needs}
-use mathlib.Core.Path.{refl}
 use mathlib.Core.Logic.{inl}
-use Rattle.labelling_operations_relabel.proofs.relabel.Statement.{statement}
-use Rattle.labelling_operations_relabel.proofs.relabel.Tie as tie
+use Rattle.words.proofs.Outputs.{untouched}
+use Rattle.labelling_operations_relabel.proofs.relabel_large.Statement.{statement}
+use Rattle.labelling_operations_relabel.proofs.relabel_large.Tie as tie
 
 check-requires : tie.Need-check-requires
 check-requires c κs = search needs
@@ -18,7 +18,7 @@ relabel-accepted-requires : tie.Need-relabel-accepted-requires
 relabel-accepted-requires c κs = rw (c .before .before .before .enum-told .given .1) at (c .before .before .before .before .before .check .ensures)
 
 returns : tie.Need-returns
-returns c = (inl (rw (c .before .verdict .given .1) at (c .before .before .before .check .ensures)), record { s0-same = refl; s1-same = refl; word-same = refl })
+returns c = (inl (rw (c .before .verdict .given .1) at (c .before .before .before .check .ensures)), untouched _ _ _)
 
 same-length : tie.Need-same-length
 same-length c = search needs
@@ -32,8 +32,8 @@ same-length-3 c = search needs
 returns-2 : tie.Need-returns-2
 returns-2 c = search needs
 
-pub relabel-spec : {M : Type 1} → statement M
-relabel-spec =
+pub relabel-large-spec : {M : Type 1} → statement M
+relabel-large-spec =
     tie.close
     (tie.spec
     check-requires
