@@ -1,30 +1,41 @@
 // Position of a diagram: the ranking of its word among the words of its size. It refuses 1 to 8 as check does, then 31.
 use diagrams::Diagram;
-use labelling_operations::Relabelling;
+use diagrams::Verdict;
+use labelling_check::LabelAnswer;
+use labelling_check::check_and_label;
 use listing_places::ranking::position_of;
 use listing_ranking::Place;
-use lists::to_index;
+ghost use Prim.Native.Nat.{_<_};
+ghost use lib.ListN.{length};
 ghost use Rattle.listing_ranking.specs.Promises.{PositionPromise};
 
-// The position of a diagram: that of its word among the words of its size. Refuses 1 to 8 as check does, then 31. The lists lent to
-// relabel hold 50 edges, so that its refusal of short lists, which comes after 1 to 8, is that of a size above 50.
+// A diagram too large to be listed: 31, unless check refuses it.
+fn unlisted(s0: &[u16], s1: &[u16], root: u64) -> Place
+    requires { ⌜ 50 < length (now s0) ⌝ }
+    ensures { λ r. ⌜ PositionPromise (now (s0 .entry)) (now (s1 .entry)) root r ⌝ }
+{
+    let verdict = diagrams::check(s0, s1, root);
+    match verdict {
+        Verdict::Refused(k) => Place::Refused(k),
+        Verdict::Accepted => Place::Refused(31),
+    }
+}
+
+// The position of a diagram: that of its word among the words of its size. Refuses 1 to 8 as check does, then 31. The labelling serves for
+// check's search, and no list is relabelled.
 pub fn position(s0: &[u16], s1: &[u16], root: u64) -> Place
     ensures { λ r. ⌜ PositionPromise (now (s0 .entry)) (now (s1 .entry)) root r ⌝ }
 {
-    let mut t0 = [0u16; Diagram::MAX_LISTED];
-    let mut t1 = [0u16; Diagram::MAX_LISTED];
+    let n = s0.len();
+    if Diagram::MAX_LISTED < n {
+        return unlisted(s0, s1, root);
+    }
+    let mut labels = [0u16; Diagram::MAX_LISTED + 1];
+    let mut order = [0u16; Diagram::MAX_LISTED + 1];
     let mut word = [0u16; Diagram::MAX_LISTED + 1];
-    let relabelled = labelling_operations::relabel(s0, s1, root, &mut t0, &mut t1, &mut word);
-    match relabelled {
-        Relabelling::Refused(k) => {
-            if k == 9 {
-                return Place::Refused(31);
-            }
-            Place::Refused(k)
-        }
-        Relabelling::Length(length) => {
-            let m = to_index(length);
-            Place::Number(position_of(s0.len(), &word[..m]))
-        }
+    let answer = check_and_label(s0, s1, root, &mut labels, &mut order, &mut word);
+    match answer {
+        LabelAnswer::Refused(k) => Place::Refused(k),
+        LabelAnswer::Length(m) => Place::Number(position_of(n, &word[..m])),
     }
 }
