@@ -1,21 +1,20 @@
--- Laws of the label arrays: giving the next label, taking the last one back, and seeing a list through the labels.
+-- Laws of the label arrays: giving the next label, and seeing a list through the labels.
 use mathlib.Core.Path.{_≡_, refl, sym, _∙_}
 use mathlib.Core.Logic.{_≢_, _⊎_, inl, inr}
 use mathlib.Core.List.{List, [], _∷_, _++_}
-use Prim.Native.Nat.{ℕ, suc, _+_, _-_, _≤_, _<_}
+use Prim.Native.Nat.{ℕ, suc, _+_, _≤_, _<_}
 use native.Mathlib.Omega.{arith}
 use native.Mathlib.Numerals.{add-one}
-use lib.ListN.{length, getD, set, drop, replicate, length-set, length-replicate}
+use lib.ListN.{length, getD, set, drop, replicate}
 use lib.Seq.{getD-set-same, getD-set-other}
-use Rattle.lists.specs.Lists.{at, tabulate, Has, Distinct}
+use Rattle.lists.specs.Lists.{at, tabulate, Has}
 use Rattle.lists.specs.Ranges.{OneTo}
 use Rattle.lists.proofs.Tests.{same?, eqb-same, eqb-ne}
 use Rattle.lists.proofs.Lists.{length-listed, at-zeros}
 use Rattle.lists.proofs.Copies.{written-more, written-length}
-use Rattle.pending_ring.proofs.Laws.{ring-empty}
 use Rattle.labelling.specs.Labelling.{labelOf, edgeOf, relabel}
 use Rattle.labelling.proofs.Labels.{lab-in}
-use Rattle.labelling_arrays.specs.Labels.{LabelsHeld, SomeLabelsHeld, Ready}
+use Rattle.labelling_arrays.specs.Labels.{LabelsHeld}
 
 -- ---- 0 is no label
 
@@ -30,9 +29,6 @@ lab-zero o x e h = let i = lab-in o x h in omega arith
 
 pub zeros-unlabelled : (m : ℕ) → LabelsHeld (replicate m 0) (replicate m 0) 0 []
 zeros-unlabelled m = record { given-is = refl; label-of = λ x. at-zeros m (suc x); edge-of = λ j e. absurd (omega arith) }
-
-pub zeros-ready : Ready (replicate 1025 0) (replicate 1025 0) (replicate 1025 0) (replicate 1025 0)
-zeros-ready = record { labels-long = length-replicate {A = ℕ} 1025 0; order-long = length-replicate {A = ℕ} 1025 0; unlabelled = zeros-unlabelled 1025; empty = ring-empty }
 
 -- ---- giving the next label
 
@@ -53,43 +49,6 @@ holds-give la od c x o hc hx h = record {
     edge-at : (j : ℕ) → OneTo (suc (length o)) j → (j ≡ suc (length o)) ⊎ (j ≢ suc (length o)) → getD (set od (c + 1) x) j 0 ≡ edgeOf (x ∷ o) j
     edge-at j e (inl q) = rw (q, eqb-same (suc (length o)), ← top) (getD-set-same od (c + 1) x 0 (omega arith))
     edge-at j e (inr n) = rw (eqb-ne j (suc (length o)) n) (getD-set-other od (c + 1) j x 0 (λ q. n (q ∙ top)) ∙ h .edge-of j (omega arith))
-
--- ---- taking the last label back
-
-take-last : (la od : List ℕ) (c : ℕ) (o : List ℕ) → c ≢ 0 → LabelsHeld la od c o → Distinct o → ((x : ℕ) → Has x o → x < length la) → c < length od
-    → (getD od c 0 < length la) × SomeLabelsHeld (set la (getD od c 0) 0) od (c - 1)
-take-last la od c [] n h a s r = absurd (n (h .given-is))
-take-last la od c (y ∷ o) n h a s r = rw last (
-  s y (inl refl),
-  record {
-    edges = o;
-    holds = record { given-is = let e = h .given-is in omega arith; label-of = λ x. label x (same? x y); edge-of = edge-at };
-    distinct = a .1;
-    small = λ x i. simp length-set (s x (inr i));
-    room = omega arith;
-  },
-)
-  where
-    last : getD od c 0 ≡ y
-    last = rw (h .given-is) (h .edge-of (suc (length o)) (omega arith) ∙ rw (eqb-same (suc (length o))))
-
-    label : (x : ℕ) → (x ≡ y) ⊎ (x ≢ y) → getD (set la y 0) x 0 ≡ labelOf o x
-    label x (inl e) = rw e (getD-set-same la y 0 0 (s y (inl refl)) ∙ sym (lab-none o y (a .0)))
-    label x (inr m) = getD-set-other la y x 0 0 m ∙ h .label-of x ∙ rw (eqb-ne x y m)
-
-    edge-at : (j : ℕ) → OneTo (length o) j → getD od j 0 ≡ edgeOf o j
-    edge-at j e = h .edge-of j (omega arith) ∙ rw (eqb-ne j (suc (length o)) (λ q. omega arith))
-
-module _ (la od : List ℕ) (c : ℕ) (h : SomeLabelsHeld la od c) where
-  pub take-back : c ≢ 0 → (getD od c 0 < length la) × SomeLabelsHeld (set la (getD od c 0) 0) od (c - 1)
-  take-back n = take-last la od c (h .edges) n (h .holds) (h .distinct) (h .small) (h .room)
-
-  pub taken-back : c ≡ 0 → LabelsHeld la od 0 []
-  taken-back e = go (h .edges) (h .holds) (h .holds .given-is)
-    where
-      go : (o : List ℕ) → LabelsHeld la od c o → c ≡ length o → LabelsHeld la od 0 []
-      go [] k l = rw e at k
-      go (y ∷ o) k l = absurd (omega arith)
 
 -- ---- a list through the labels
 

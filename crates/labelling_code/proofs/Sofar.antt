@@ -18,7 +18,7 @@ use Rattle.labelling.specs.Labelling.{event, Labelled, events, firstEvent, labe
 use Rattle.labelling.proofs.Along.{falls, size}
 use Rattle.labelling.proofs.Labels.{edge-in}
 use Rattle.labelling.proofs.Reached.{labels-done, labels-most}
-use Rattle.labelling_code.specs.Scratch.{LabelsHeld, SomeLabelsHeld, Underway, firstEventOf, EventDone, WordWritten}
+use Rattle.labelling_code.specs.Scratch.{LabelsHeld, Underway, firstEventOf, EventDone, WordWritten}
 use Rattle.labelling_events.specs.declared.EventItem.{EventItem}
 
 -- the items w before what is to come
@@ -124,15 +124,6 @@ module _ (s0 s1 : List ℕ) (root : ℕ) (la od nx pv : List ℕ) (c : ℕ) (w :
 module _ (s0 s1 : List ℕ) (root : ℕ) (m : RootedMaps s0 s1 root) where
   pub labels-edges : (j : ℕ) → OneTo (length (labels s0 s1 root)) j → OneTo (length s0) (edgeOf (labels s0 s1 root) j)
   labels-edges j e = labels-done s0 s1 root m .inv .edges _ (edge-in (labels s0 s1 root) j e)
-
-  pub labels-some : (la od : List ℕ) (given : ℕ) → length s0 < length la → length s0 < length od → LabelsHeld la od given (labels s0 s1 root) → SomeLabelsHeld la od given
-  labels-some la od given l k h = record {
-    edges = labels s0 s1 root;
-    holds = h;
-    distinct = labels-done s0 s1 root m .inv .distinct;
-    small = λ x i. (let e = labels-done s0 s1 root m .inv .edges x i in omega arith);
-    room = let i = labels-most s0 s1 root m in let e = h .given-is in omega arith;
-  }
 
 -- ---- the items in a list: its first m places, before what it held
 

@@ -5,14 +5,14 @@ use labelling_events::event;
 use lists::to_index;
 ghost use mathlib.Core.Path.{_≡_};
 ghost use mathlib.Core.List.{List, _++_, []};
-ghost use Prim.Native.Nat.{ℕ, suc, _<_, _≤_};
-ghost use lib.ListN.{length, take, drop};
+ghost use Prim.Native.Nat.{ℕ, _<_, _≤_};
+ghost use lib.ListN.{length, drop};
 ghost use Rattle.lists.specs.Lists.{at, tabulate};
 ghost use Rattle.lists.specs.Ranges.{OneTo};
-ghost use Rattle.diagrams.specs.Check.{Accepts, RootedMaps, Entries};
+ghost use Rattle.diagrams.specs.Check.{RootedMaps, Entries};
 ghost use Rattle.pending_ring.specs.Ring.{Ring};
-ghost use Rattle.labelling.specs.Labelling.{edgeOf, relabel, wordOf};
-ghost use Rattle.labelling_code.specs.Scratch.{LabelsHeld, SomeLabelsHeld, Ready, WordWritten};
+ghost use Rattle.labelling.specs.Labelling.{edgeOf, relabel};
+ghost use Rattle.labelling_code.specs.Scratch.{LabelsHeld, WordWritten};
 
 // How many items were written, and how many labels given meanwhile.
 pub struct Extent {
@@ -48,42 +48,6 @@ pub fn write_word(
         len += 1;
     }
     Extent { len, given }
-}
-
-// Takes the labels back, the last given first.
-pub(crate) fn take_back(labels: &mut [u16], order: &[u16], given: u16)
-    requires { ⌜ SomeLabelsHeld (now labels) (now order) given ⌝ }
-    ensures { λ _. ⌜ LabelsHeld (now (labels .exit)) (now (order .entry)) 0 [] ⌝ }
-{
-    let mut left = given;
-    while left != 0 {
-        let x = order[to_index(left)];
-        labels[to_index(x)] = 0;
-        left -= 1;
-    }
-}
-
-// Writes the diagram's word and leaves the arrays fit for the next labelling. Returns the word's length.
-pub fn own_word(
-    s0: &[u16],
-    s1: &[u16],
-    labels: &mut [u16; 1025],
-    order: &mut [u16; 1025],
-    next: &mut [u16; 1025],
-    prev: &mut [u16; 1025],
-    root: u16,
-    word: &mut [u16],
-) -> usize
-    requires { ⌜ Accepts (now s0) (now s1) root ⌝ }
-    requires { ⌜ Ready (now labels) (now order) (now next) (now prev) ⌝ }
-    requires { ⌜ length (now s0) < length (now word) ⌝ }
-    ensures few { λ m. ⌜ m ≤ suc (length (now (s0 .entry))) ⌝ }
-    ensures word { λ m. ⌜ take m (now (word .exit)) ≡ wordOf (now (s0 .entry)) (now (s1 .entry)) root ⌝ }
-    ensures ready { λ _. ⌜ Ready (now (labels .exit)) (now (order .exit)) (now (next .exit)) (now (prev .exit)) ⌝ }
-{
-    let t = write_word(s0, s1, labels, order, next, prev, root, word);
-    take_back(labels, order, t.given);
-    t.len
 }
 
 // Writes the list s, seen through the labels, into the first places of t.

@@ -7,7 +7,7 @@
 --   EventDone s0 s1 la od nx pv v e            the arrays hold what the event v left; e is its item and the number of labels given
 --   WordWritten s0 s1 root la od a b m given   a whole labelling: its word, of length m, is written into the list a, now b, and the labels
 --                                              given are held, one for each edge that is reached from the root
--- and from labelling_arrays: LabelsHeld, SomeLabelsHeld, Ready.
+-- and from labelling_arrays: LabelsHeld.
 use mathlib.Core.Path.{_≡_}
 use mathlib.Core.List.{List, _++_}
 use Prim.Native.Nat.{ℕ, suc, _≤_, _<_}
@@ -17,7 +17,7 @@ use Rattle.lists.specs.Lists.{at}
 use Rattle.diagrams.specs.Check.{Mapped}
 use Rattle.pending_ring.specs.Ring.{Ring}
 use Rattle.labelling.specs.Labelling.{Event, LabellingInvariant, firstEvent, labels, wordOf}
-pub use Rattle.labelling_arrays.specs.Labels.{LabelsHeld, SomeLabelsHeld, Ready}
+pub use Rattle.labelling_arrays.specs.Labels.{LabelsHeld}
 use Rattle.labelling_events.specs.declared.EventItem.{EventItem}
 
 -- the lists are maps; that every edge is reached from the root is not asked

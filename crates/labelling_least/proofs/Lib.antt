@@ -1,1 +1,2 @@
 pub mod LesserPart
+pub mod Deciding

@@ -1,6 +1,6 @@
 -- The first item of a rooting's word: 0, the event U, where the black list fixes the root, and 1, the event T, where it moves it. So the
 -- words of the fixed edges come before those of the moved ones.
-use mathlib.Core.Path.{_≡_, refl, ap}
+use mathlib.Core.Path.{_≡_, ap}
 use mathlib.Core.Logic.{_≢_, inl}
 use mathlib.Core.List.{List, _∷_}
 use Prim.Native.Nat.{ℕ}

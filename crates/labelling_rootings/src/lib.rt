@@ -1,39 +1,26 @@
-// A word among the words of a diagram's rootings. These ask for an accepted diagram and for arrays fit for a labelling, which they leave
-// so: whoever knows its diagram to be good calls them without a check, and clears no array.
+// A word among the words of a diagram's rootings. These ask for an accepted diagram, a stamp for each edge and an empty ring, which they
+// leave empty: whoever knows its diagram to be good calls them without a check. They clear the stamps once for all rootings.
 pub mod least;
 
 use labelling_arrays::follow;
-use labelling_code::tracing::trace;
 use labelling_least::second_is_lesser;
+use labelling_tracing::clear_stamps;
+use labelling_tracing::has_word;
+use labelling_tracing::trace;
 ghost use mathlib.Core.Path.{_≡_};
 ghost use mathlib.Core.Logic.{_↔_, _≢_};
 ghost use mathlib.Core.Bool.{true};
-ghost use Prim.Native.Nat.{ℕ, _<_};
+ghost use mathlib.Core.List.{[]};
+ghost use Prim.Native.Nat.{ℕ, _+_, _<_};
 ghost use lib.ListN.{length};
 ghost use Rattle.lists.specs.Lists.{at};
 ghost use Rattle.lists.specs.Ranges.{OneTo};
-ghost use Rattle.words.specs.Order.{precedes, same};
-ghost use Rattle.diagrams.specs.Check.{Size, Accepts};
+ghost use Rattle.words.specs.Order.{precedes};
+ghost use Rattle.diagrams.specs.Check.{Size, Mapped, Accepts};
+ghost use Rattle.pending_ring.specs.Ring.{Ring};
 ghost use Rattle.labelling.specs.Labelling.{wordOf};
-ghost use Rattle.labelling_code.specs.Scratch.{Ready};
+ghost use Rattle.labelling_tracing_events.specs.Stamps.{Below};
 ghost use Rattle.labelling_rootings.specs.Among.{NoneBefore, SomeRooting};
-
-// Whether two words are the same.
-pub fn same(a: &[u16], b: &[u16]) -> bool
-    ensures { λ r. ⌜ r ≡ same (now (a .entry)) (now (b .entry)) ⌝ }
-{
-    if a.len() != b.len() {
-        return false;
-    }
-    let mut i: usize = 0;
-    while i < a.len() {
-        if a[i] != b[i] {
-            return false;
-        }
-        i += 1;
-    }
-    true
-}
 
 // Whether s0 fixes the edge x: whether the word of the rooting x begins with U.
 fn fixes(s0: &[u16], x: u16) -> bool
@@ -64,23 +51,22 @@ fn moves_all(s0: &[u16]) -> bool
 fn comes_before(
     s0: &[u16],
     s1: &[u16],
-    labels: &mut [u16; 1025],
-    order: &mut [u16; 1025],
+    stamps: &mut [u16],
     next: &mut [u16; 1025],
     prev: &mut [u16; 1025],
     x: u16,
     root: u16,
     fixed: bool,
     own: &[u16],
-    cand: &mut [u16],
 ) -> bool
-    requires { ⌜ Accepts (now s0) (now s1) x ⌝ }
-    requires { ⌜ Ready (now labels) (now order) (now next) (now prev) ⌝ }
-    requires { ⌜ length (now s0) < length (now cand) ⌝ }
+    requires { ⌜ Mapped (now s0) (now s1) × OneTo (length (now s0)) x ⌝ }
+    requires { ⌜ Below (length (now s0)) (now stamps) x ⌝ }
+    requires { ⌜ Ring (now next) (now prev) [] ⌝ }
     requires { ⌜ wordOf (now s0) (now s1) root ≡ now own ⌝ }
     requires { ⌜ (fixed ≡ true → at (now s0) root ≡ root) ⌝ }
     ensures answer { λ r. ⌜ r ≡ precedes (wordOf (now (s0 .entry)) (now (s1 .entry)) x) (now (own .entry)) ⌝ }
-    ensures ready { λ _. ⌜ Ready (now (labels .exit)) (now (order .exit)) (now (next .exit)) (now (prev .exit)) ⌝ }
+    ensures stamped { λ _. ⌜ Below (length (now (s0 .entry))) (now (stamps .exit)) (x + 1) ⌝ }
+    ensures empty { λ _. ⌜ Ring (now (next .exit)) (now (prev .exit)) [] ⌝ }
 {
     if x == root {
         return false;
@@ -90,8 +76,13 @@ fn comes_before(
             return false;
         }
     }
-    let k = trace(s0, s1, labels, order, next, prev, x, own, cand);
-    second_is_lesser(own, &cand[..k])
+    let t = trace(s0, s1, stamps, next, prev, x, own);
+    let place = t.place;
+    if t.ended {
+        return place < own.len();
+    }
+    let one = [t.item; 1];
+    second_is_lesser(&own[place..], &one)
 }
 
 // Whether no rooting's word comes before own, the word of the root. Where own begins with T and s0 fixes some edge, whose word begins with
@@ -99,20 +90,18 @@ fn comes_before(
 pub fn none_before(
     s0: &[u16],
     s1: &[u16],
-    labels: &mut [u16; 1025],
-    order: &mut [u16; 1025],
+    stamps: &mut [u16],
     next: &mut [u16; 1025],
     prev: &mut [u16; 1025],
     root: u16,
     own: &[u16],
-    cand: &mut [u16],
 ) -> bool
     requires { ⌜ Accepts (now s0) (now s1) root ⌝ }
-    requires { ⌜ Ready (now labels) (now order) (now next) (now prev) ⌝ }
-    requires { ⌜ length (now s0) < length (now cand) ⌝ }
+    requires { ⌜ length (now s0) < length (now stamps) ⌝ }
+    requires { ⌜ Ring (now next) (now prev) [] ⌝ }
     requires { ⌜ wordOf (now s0) (now s1) root ≡ now own ⌝ }
     ensures answer { λ r. ⌜ (r ≡ true) ↔ NoneBefore (now (s0 .entry)) (now (s1 .entry)) (now (own .entry)) ⌝ }
-    ensures ready { λ _. ⌜ Ready (now (labels .exit)) (now (order .exit)) (now (next .exit)) (now (prev .exit)) ⌝ }
+    ensures empty { λ _. ⌜ Ring (now (next .exit)) (now (prev .exit)) [] ⌝ }
 {
     let fixed = fixes(s0, root);
     if !fixed {
@@ -121,22 +110,11 @@ pub fn none_before(
         }
     }
     let n = s0.len();
+    clear_stamps(stamps, n);
     let mut x: usize = 0;
     while x < n {
         x += 1;
-        if comes_before(
-            s0,
-            s1,
-            labels,
-            order,
-            next,
-            prev,
-            x as u16,
-            root,
-            fixed,
-            own,
-            cand,
-        ) {
+        if comes_before(s0, s1, stamps, next, prev, x as u16, root, fixed, own) {
             return false;
         }
     }
@@ -147,25 +125,23 @@ pub fn none_before(
 pub fn some_rooting(
     s0: &[u16],
     s1: &[u16],
-    labels: &mut [u16; 1025],
-    order: &mut [u16; 1025],
+    stamps: &mut [u16],
     next: &mut [u16; 1025],
     prev: &mut [u16; 1025],
     own: &[u16],
-    cand: &mut [u16],
 ) -> bool
     requires { ⌜ Accepts (now s0) (now s1) 1 ⌝ }
-    requires { ⌜ Ready (now labels) (now order) (now next) (now prev) ⌝ }
-    requires { ⌜ length (now s0) < length (now cand) ⌝ }
+    requires { ⌜ length (now s0) < length (now stamps) ⌝ }
+    requires { ⌜ Ring (now next) (now prev) [] ⌝ }
     ensures answer { λ r. ⌜ (r ≡ true) ↔ SomeRooting (now (s0 .entry)) (now (s1 .entry)) (now (own .entry)) ⌝ }
-    ensures ready { λ _. ⌜ Ready (now (labels .exit)) (now (order .exit)) (now (next .exit)) (now (prev .exit)) ⌝ }
+    ensures empty { λ _. ⌜ Ring (now (next .exit)) (now (prev .exit)) [] ⌝ }
 {
     let n = s0.len();
+    clear_stamps(stamps, n);
     let mut x: usize = 0;
     while x < n {
         x += 1;
-        let k = trace(s0, s1, labels, order, next, prev, x as u16, own, cand);
-        if same(&cand[..k], own) {
+        if has_word(s0, s1, stamps, next, prev, x as u16, own) {
             return true;
         }
     }

@@ -14,10 +14,10 @@ use Rattle.diagrams.specs.Check.{Accepts}
 use Rattle.words.specs.Word.{Pair}
 use Rattle.words.specs.Shape.{Word}
 use Rattle.lists.proofs.Overwriting.{over-one}
+use Rattle.pending_ring.specs.Ring.{Ring}
 use Rattle.labelling.specs.Labelling.{wordOf}
 use Rattle.labelling.specs.Rootings.{Kept}
 use Rattle.labelling.proofs.OfLists.{spelled-wordOf, spelled-accepted}
-use Rattle.labelling_code.specs.Scratch.{Ready}
 use Rattle.labelling_rootings.specs.Among.{NoneBefore}
 use Rattle.listing.specs.Listing.{count}
 use Rattle.listing.specs.Position.{wordAt}
@@ -192,26 +192,26 @@ pub record Upto (n p i edge place : ℕ) (am bm : List ℕ) : Type 0 where
   pub place-is : place ≡ length (flatWords n p i)
   pub marked : MarksWritten n p i am bm
 
-pub record Marking (n rows : ℕ) (b0 b1 bw bl am bm la od nx pv cand : List ℕ) (edge place i : ℕ) : Type 0 where
-  pub ready : Ready la od nx pv
-  pub cand-long : length cand ≡ 51
+pub record Marking (n rows : ℕ) (b0 b1 bw bl am bm sp nx pv : List ℕ) (edge place i : ℕ) : Type 0 where
+  pub none-pending : Ring nx pv []
+  pub stamps-long : length sp ≡ 51
   pub few : i ≤ rows
   pub edge-is : edge ≡ i * n
   pub marks-long : length bm ≡ length am
   pub upto : (p : ℕ) → BlockHeld n p rows b0 b1 bw bl → Upto n p i edge place am bm
 
-pub marking-starts : (n rows : ℕ) (b0 b1 bw bl am la od nx pv cand : List ℕ) → Ready la od nx pv → length cand ≡ 51 → Marking n rows b0 b1 bw bl am am la od nx pv cand 0 0 0
+pub marking-starts : (n rows : ℕ) (b0 b1 bw bl am sp nx pv : List ℕ) → Ring nx pv [] → length sp ≡ 51 → Marking n rows b0 b1 bw bl am am sp nx pv 0 0 0
 unfolding flatWords
-marking-starts n rows b0 b1 bw bl am la od nx pv cand r l = record {
-  ready = r;
-  cand-long = l;
+marking-starts n rows b0 b1 bw bl am sp nx pv r l = record {
+  none-pending = r;
+  stamps-long = l;
   few = omega arith;
   edge-is = sym (zero-mul n);
   marks-long = refl;
   upto = λ p H. record { place-is = refl; marked = marked-none n p am };
 }
 
-module _ {n rows : ℕ} {b0 b1 bw bl am bm la od nx pv cand : List ℕ} {edge place i : ℕ} (M : Marking n rows b0 b1 bw bl am bm la od nx pv cand edge place i) where
+module _ {n rows : ℕ} {b0 b1 bw bl am bm sp nx pv : List ℕ} {edge place i : ℕ} (M : Marking n rows b0 b1 bw bl am bm sp nx pv edge place i) where
   pub marking-done : rows ≤ i → (p : ℕ) → BlockHeld n p rows b0 b1 bw bl → MarksWritten n p rows am bm
   marking-done l p H = let f = M .few in let e : i ≡ rows = omega arith in rw e at (M .upto p H .marked)
 
@@ -230,20 +230,20 @@ module _ {n rows : ℕ} {b0 b1 bw bl am bm la od nx pv cand : List ℕ} {edge pl
         pub marking-own : wordOf (take (edge + n - edge) (drop edge b0)) (take (edge + n - edge) (drop edge b1)) 1 ≡ take (place + l - place) (drop place bw)
         marking-own = here-own H i h edge place l (M .edge-is) (M .upto p H .place-is) e
 
-        pub marking-small : length (take (edge + n - edge) (drop edge b0)) < length cand
-        marking-small = let s = H .sized in let z = here-size H i h edge place l (M .edge-is) (M .upto p H .place-is) e in let k = M .cand-long in omega arith
+        pub marking-small : length (take (edge + n - edge) (drop edge b0)) < length sp
+        marking-small = let s = H .sized in let z = here-size H i h edge place l (M .edge-is) (M .upto p H .place-is) e in let k = M .stamps-long in omega arith
 
       -- one row more
-      pub marking-again : (x : ℕ) (la′ od′ nx′ pv′ cand′ : List ℕ) → rows ≤ length am
+      pub marking-again : (x : ℕ) (sp′ nx′ pv′ : List ℕ) → rows ≤ length am
           → let s0 = take (edge + n - edge) (drop edge b0) in
           let s1 = take (edge + n - edge) (drop edge b1) in
           let own = take (place + l - place) (drop place bw) in
-          ((x ≡ 1) × NoneBefore s0 s1 own) ⊎ ((x ≡ 0) × (¬ NoneBefore s0 s1 own)) → Ready la′ od′ nx′ pv′ → length cand′ ≡ 51
-          → Marking n rows b0 b1 bw bl am (set bm i x) la′ od′ nx′ pv′ cand′ (edge + n) (place + l) (i + 1)
+          ((x ≡ 1) × NoneBefore s0 s1 own) ⊎ ((x ≡ 0) × (¬ NoneBefore s0 s1 own)) → Ring nx′ pv′ [] → length sp′ ≡ 51
+          → Marking n rows b0 b1 bw bl am (set bm i x) sp′ nx′ pv′ (edge + n) (place + l) (i + 1)
       unfolding flatWords
-      marking-again x la′ od′ nx′ pv′ cand′ r m ready long = record {
-        ready = ready;
-        cand-long = long;
+      marking-again x sp′ nx′ pv′ r m empty long = record {
+        none-pending = empty;
+        stamps-long = long;
         few = omega arith;
         edge-is = rw add-one (let a = M .edge-is in let s = rows-more n i in omega arith);
         marks-long = length-set bm i x ∙ M .marks-long;

@@ -1,4 +1,4 @@
-// The keep marks of a block that is written. The arrays of a labelling are made once for the block, and its diagrams are not checked:
+// The keep marks of a block that is written. The stamps and the ring are made once for the block, and its diagrams are not checked:
 // they are those of a run.
 use lists::to_index;
 use run_mark::mark;
@@ -20,11 +20,9 @@ pub fn mark_rows(
     ensures { λ _. ⌜ ((p : ℕ) → BlockHeld n p rows (now (s0 .entry)) (now (s1 .entry)) (now (words .entry)) (now (lengths .entry))
         → MarksWritten n p rows (now (marks .entry)) (now (marks .exit))) ⌝ }
 {
-    let mut labels = [0u16; 1025];
-    let mut order = [0u16; 1025];
+    let mut stamps = [0u16; 51];
     let mut next = [0u16; 1025];
     let mut prev = [0u16; 1025];
-    let mut cand = [0u16; 51];
     let mut edge: usize = 0;
     let mut place: usize = 0;
     let mut i: usize = 0;
@@ -34,12 +32,10 @@ pub fn mark_rows(
         let m = mark(
             &s0[edge..after],
             &s1[edge..after],
-            &mut labels,
-            &mut order,
+            &mut stamps,
             &mut next,
             &mut prev,
             &words[place..end],
-            &mut cand,
         );
         marks[i] = m;
         edge = after;

@@ -4,17 +4,16 @@ use mathlib.Core.Path.{refl, sym, _∙_}
 use Prim.Native.Nat.{_-_, _<_}
 use native.Mathlib.Omega.{arith}
 use lib.ListN.{length, getD}
-use Rattle.labelling_code.proofs.Arrays.{zeros-ready}
+use Rattle.pending_ring.proofs.Laws.{ring-empty}
 use Rattle.run_marks.proofs.Marking.{Marking, Rooms, marking-starts, marking-done, marking-length, marking-rooms, marking-accepted, marking-own, marking-small, marking-again}
 use Rattle.run_marks.proofs.mark_rows.Statement.{statement}
 use Rattle.run_marks.proofs.mark_rows.Tie as tie
 
 abbrev Inv-loop : tie.InvT-loop
-Inv-loop n rows s0 s1 words lengths marks₀ labels₀ order₀ next₀ prev₀ cand₀ edge₀ place₀ i₀ marks labels order next prev cand edge place i =
-    Marking n rows s0 s1 words lengths marks₀ marks labels order next prev cand edge place i
+Inv-loop n rows s0 s1 words lengths marks₀ stamps₀ next₀ prev₀ edge₀ place₀ i₀ marks stamps next prev edge place i = Marking n rows s0 s1 words lengths marks₀ marks stamps next prev edge place i
 
 abbrev μ-loop : tie.MeasureT-loop
-μ-loop n rows s0 s1 words lengths marks₀ labels₀ order₀ next₀ prev₀ cand₀ edge₀ place₀ i₀ marks labels order next prev cand edge place i = rows - i
+μ-loop n rows s0 s1 words lengths marks₀ stamps₀ next₀ prev₀ edge₀ place₀ i₀ marks stamps next prev edge place i = rows - i
 
 -- the lists that were written, from a position on
 module _ (c : tie.In-loop Inv-loop μ-loop) where
@@ -28,7 +27,7 @@ at-row : (c : tie.After-to-index Inv-loop μ-loop) → let a = c .before .before
 at-row c = let s = c .before .before .before .before .before .before .before .before .before .pre .0 in marking-rooms (c .before .before .before .loop .inv) (c .before .before .loop-test .taken) (c .to-index .result) (c .to-index .ensures) (s .0) (s .1)
 
 loop-holds : tie.Need-loop-holds Inv-loop μ-loop
-loop-holds c = let s = c .before .before .before .before .before in marking-starts (s .args .n) (s .args .rows) (s .args .s0 .now) (s .args .s1 .now) (s .args .words .now) (s .args .lengths .now) (s .args .marks .now) _ _ _ _ _ zeros-ready refl
+loop-holds c = let s = c .before .before .before .before .before in marking-starts (s .args .n) (s .args .rows) (s .args .s0 .now) (s .args .s1 .now) (s .args .words .now) (s .args .lengths .now) (s .args .marks .now) _ _ _ ring-empty refl
 
 add-after : tie.Need-add-after Inv-loop μ-loop
 add-after c = let r = at-rest c .room0 in let g = c .before .before .before .before .before .before .before .good in record { fits = omega arith }
@@ -69,43 +68,44 @@ part-mark-start-2 c = let r = at-row (c .before) .room1 in search needs
 part-mark-end-2 : tie.Need-part-mark-end-2 Inv-loop μ-loop
 part-mark-end-2 c = let r = at-row (c .before) .room1 in search needs
 
+slice-aggregate-mark : tie.Need-slice-aggregate-mark Inv-loop μ-loop
+slice-aggregate-mark c = sym (c .before .before .before .before .before .before .loop .inv .stamps-long)
+
 mul-mark-3 : tie.Need-mul-mark-3 Inv-loop μ-loop
-mul-mark-3 c = let r = at-row (c .before .before .before .before .before .before) .room-word in let g = c .before .before .before .before .before .before .before .before .before .before .before .before .before .before .before .good in record { fits = omega arith }
+mul-mark-3 c = let r = at-row (c .before .before .before .before .before) .room-word in let g = c .before .before .before .before .before .before .before .before .before .before .before .before .before .before .good in record { fits = omega arith }
 
 sub-mark-3 : tie.Need-sub-mark-3 Inv-loop μ-loop
-sub-mark-3 c = let r = at-row (c .before .before .before .before .before .before) .room-word in search needs
+sub-mark-3 c = let r = at-row (c .before .before .before .before .before) .room-word in search needs
 
 part-mark-start-3 : tie.Need-part-mark-start-3 Inv-loop μ-loop
-part-mark-start-3 c = let r = at-row (c .before .before .before .before .before .before) .room-word in search needs
+part-mark-start-3 c = let r = at-row (c .before .before .before .before .before) .room-word in search needs
 
 part-mark-end-3 : tie.Need-part-mark-end-3 Inv-loop μ-loop
-part-mark-end-3 c = let r = at-row (c .before .before .before .before .before .before) .room-word in search needs
-
-slice-aggregate-mark : tie.Need-slice-aggregate-mark Inv-loop μ-loop
-slice-aggregate-mark c = sym (c .before .before .before .before .before .before .before .before .before .before .before .loop .inv .cand-long)
+part-mark-end-3 c = let r = at-row (c .before .before .before .before .before) .room-word in search needs
 
 mark-requires : tie.Need-mark-requires Inv-loop μ-loop
 mark-requires c κs =
-    let d = c .before .before .before .before .before .before .before .before in
-    let s = c .before .before .before .before .before .before .before .before .before .before .before .before .before .before .before .before .before .pre .0 in
-    let m = c .before .before .before .before .before .before .before .before .before .before .before .loop .inv in
-    let t = c .before .before .before .before .before .before .before .before .before .before .loop-test .taken in
-    (marking-accepted m t (d .to-index .result) (d .to-index .ensures) (s .0) (s .1), (m .ready, (marking-small m t (d .to-index .result) (d .to-index .ensures) (s .0) (s .1), marking-own m t (d .to-index .result) (d .to-index .ensures) (s .0) (s .1))))
+    let d = c .before .before .before .before .before .before in
+    let s = c .before .before .before .before .before .before .before .before .before .before .before .before .before .before .before .pre .0 in
+    let m = c .before .before .before .before .before .before .before .before .before .loop .inv in
+    let t = c .before .before .before .before .before .before .before .before .loop-test .taken in
+    (marking-accepted m t (d .to-index .result) (d .to-index .ensures) (s .0) (s .1), (marking-small m t (d .to-index .result) (d .to-index .ensures) (s .0) (s .1), (m .none-pending, marking-own m t (d .to-index .result) (d .to-index .ensures) (s .0) (s .1))))
 
 slice-write-marks : tie.Need-slice-write-marks Inv-loop μ-loop
-slice-write-marks c = let t = c .before .before .before .before .before .before .before .before .before .before .before .before .loop-test .taken in let m = c .before .before .before .before .before .before .before .before .before .before .before .before .before .loop .inv .marks-long in let r = c .before .before .before .before .before .before .before .before .before .before .before .before .before .before .before .before .before .before .before .pre .1 in omega arith
+slice-write-marks c = let t = c .before .before .before .before .before .before .before .before .before .before .loop-test .taken in let m = c .before .before .before .before .before .before .before .before .before .before .before .loop .inv .marks-long in let r = c .before .before .before .before .before .before .before .before .before .before .before .before .before .before .before .before .before .pre .1 in omega arith
 
 add-i : tie.Need-add-i Inv-loop μ-loop
-add-i c = let t = c .before .before .before .before .before .before .before .before .before .before .before .before .loop-test .taken in let g = c .before .before .before .before .before .before .before .before .before .before .before .before .before .before .before .before .before .before .before .fits in record { fits = omega arith }
+add-i c = let t = c .before .before .before .before .before .before .before .before .before .before .loop-test .taken in let g = c .before .before .before .before .before .before .before .before .before .before .before .before .before .before .before .before .before .fits in record { fits = omega arith }
 
 loop-less : tie.Need-loop-less Inv-loop μ-loop
-loop-less c = let t = c .before .before .before .before .before .before .before .before .before .before .before .before .loop-test .taken in omega arith
+loop-less c = let t = c .before .before .before .before .before .before .before .before .before .before .loop-test .taken in omega arith
 
 loop-again : tie.Need-loop-again Inv-loop μ-loop
 loop-again c =
-    let d = c .before .before .before .before .before .before .before .before .before .before in
+    let d = c .before .before .before .before .before .before .before .before in
     let m = c .before .mark in
-    marking-again (c .before .before .before .before .before .before .before .before .before .before .before .before .before .loop .inv) (c .before .before .before .before .before .before .before .before .before .before .before .before .loop-test .taken) (d .to-index .result) (d .to-index .ensures) (m .result) _ _ _ _ _ (c .before .before .before .before .before .before .before .before .before .before .before .before .before .before .before .before .before .before .before .pre .1) (m .ensures .0) (m .ensures .1) (m .kept .1 .1 .1 .1 .1 .1 .1 .0 ∙ c .before .before .before .before .before .before .before .before .before .before .before .before .before .loop .inv .cand-long)
+    let l = c .before .before .before .before .before .before .before .before .before .before .before .loop .inv in
+    marking-again l (c .before .before .before .before .before .before .before .before .before .before .loop-test .taken) (d .to-index .result) (d .to-index .ensures) (m .result) _ _ _ (c .before .before .before .before .before .before .before .before .before .before .before .before .before .before .before .before .before .pre .1) (m .ensures .0) (m .ensures .1) (m .kept .1 .1 .0 ∙ l .stamps-long)
 
 same-length : tie.Need-same-length Inv-loop μ-loop
 same-length c = c .before .loop .inv .marks-long
@@ -133,11 +133,11 @@ mark-rows-spec =
     sub-mark-2
     part-mark-start-2
     part-mark-end-2
+    slice-aggregate-mark
     mul-mark-3
     sub-mark-3
     part-mark-start-3
     part-mark-end-3
-    slice-aggregate-mark
     mark-requires
     slice-write-marks
     add-i

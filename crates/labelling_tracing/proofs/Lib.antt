@@ -1,0 +1,4 @@
+pub mod Clearing
+pub mod Standing
+pub mod Sofar
+pub mod Tracked
