@@ -1,8 +1,9 @@
 -- The labelling gives a label to exactly the edges that are reached from the root: each edge gets one exactly if the diagram is connected.
+-- So the number of labels given decides whether check accepts.
 use mathlib.Core.Path.{_≡_, refl}
 use mathlib.Core.Logic.{_≢_, _⊎_, inl, inr, _↔_}
 use mathlib.Core.List.{List, [], _∷_}
-use Prim.Native.Nat.{ℕ, zero, suc, _≤_}
+use Prim.Native.Nat.{ℕ, zero, suc, _≤_, _<_}
 use native.Mathlib.Omega.{arith}
 use lib.ListN.{length}
 use Rattle.lists.specs.Lists.{at, Has}
@@ -11,7 +12,8 @@ use Rattle.lists.proofs.Lists.{has?}
 use Rattle.lists.proofs.Ranges.{edges-few}
 use Rattle.lists.proofs.Tests.{same?}
 use Rattle.diagrams.specs.Diagram.{Reached, here, black, white, Maps}
-use Rattle.diagrams.specs.Check.{Connected, RootedMaps}
+use Rattle.diagrams.specs.Check.{Connected, Accepts, Refuses, RootedMaps}
+use Rattle.diagrams.proofs.Checks.{maps-accepted, maps-refused}
 use Rattle.diagrams.proofs.Diagrams.{edge-one, reached-trans, reached-back}
 use Rattle.labelling.specs.Labelling.{event, LabellingInvariant, events, label, labels}
 use Rattle.labelling.proofs.Along.{View, is-W, is-J, is-B, is-F, view, next, size}
@@ -96,3 +98,9 @@ module _ (s0 s1 : List ℕ) (root : ℕ) (m : RootedMaps s0 s1 root) where
 
       to : length (labels s0 s1 root) ≡ length s0 → Connected s0 s1
       to l x e = reached-trans (reached-back (m .mapped .maps) (m .root-in) (reached l 1 (edge-one (m .mapped .maps)))) (reached l x e)
+
+  pub some-unlabelled : {given : ℕ} → given ≡ length (labels s0 s1 root) → given < length s0 → Refuses s0 s1 root 8
+  some-unlabelled g l = maps-refused s0 s1 root m (λ c. let e = labels-connected .1 c in omega arith)
+
+  pub all-labelled : {given : ℕ} → given ≡ length (labels s0 s1 root) → length s0 ≤ given → Accepts s0 s1 root
+  all-labelled g l = let i = labels-most in maps-accepted s0 s1 root m (labels-connected .0 (omega arith))

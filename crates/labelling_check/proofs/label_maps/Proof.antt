@@ -2,7 +2,8 @@
 use borrow.Author.Needs.{needs}
 use native.Mathlib.Omega.{arith}
 use Rattle.pending_ring.proofs.Laws.{ring-empty}
-use Rattle.labelling_check.proofs.Decided.{some-unlabelled, all-labelled}
+use Rattle.labelling.proofs.Reached.{some-unlabelled, all-labelled}
+use Rattle.labelling_check.proofs.Decided.{all-given}
 use Rattle.labelling_check.proofs.label_maps.Statement.{statement}
 use Rattle.labelling_check.proofs.label_maps.Tie as tie
 
@@ -25,7 +26,7 @@ same-length-3 : tie.Need-same-length-3
 same-length-3 c = search needs
 
 returns : tie.Need-returns
-returns c = some-unlabelled _ _ _ (c .before .before .before .before .before .before .before .before .before .before .before .before .before .before .before .before .before .before .before .pre .0) _ _ _ _ _ _ (c .before .before .before .before .before .before .before .before .write-word .ensures .0) (let e = c .before .to-index .ensures in omega arith)
+returns c = let e = c .before .to-index .ensures in some-unlabelled _ _ _ (c .before .before .before .before .before .before .before .before .before .before .before .before .before .before .before .before .before .before .before .pre .0) (c .before .before .before .before .before .before .before .before .write-word .ensures .0 .held .given-is) (omega arith)
 
 same-length-4 : tie.Need-same-length-4
 same-length-4 c = search needs
@@ -37,7 +38,11 @@ same-length-6 : tie.Need-same-length-6
 same-length-6 c = search needs
 
 returns-2 : tie.Need-returns-2
-returns-2 c = all-labelled _ _ _ (c .before .before .before .before .before .before .before .before .before .before .before .before .before .before .before .before .before .before .before .pre .0) _ _ _ _ _ _ (c .before .before .before .before .before .before .before .before .write-word .ensures .0) (let e = c .before .to-index .ensures in omega arith)
+returns-2 c =
+    let r = c .before .before .before .before .before .before .before .before .before .before .before .before .before .before .before .before .before .before .before .pre .0 in
+    let w = c .before .before .before .before .before .before .before .before .write-word .ensures .0 in
+    let e = c .before .to-index .ensures in
+    (all-labelled _ _ _ r (w .held .given-is) (omega arith), all-given _ _ _ r _ _ _ _ _ _ w (omega arith))
 
 pub label-maps-spec : {M : Type 1} → statement M
 label-maps-spec =

@@ -1,73 +1,43 @@
--- `ask` meets its contract: the word of the second diagram is written, and the question answered with it.
+-- `ask` meets its contract, in small arrays and in large ones.
 use borrow.Author.Needs.{needs}
-use mathlib.Core.Path.{_≡_, sym}
-use Prim.Native.Nat.{_≤_}
 use native.Mathlib.Omega.{arith}
-use denote.Ref.{now}
-use lib.ListN.{length, take}
-use lib.Seq.{length-take-le, take-at}
-use Rattle.diagrams.proofs.Checks.{accepts-mapped}
-use Rattle.pending_ring.proofs.Laws.{ring-empty}
-use Rattle.labelling.specs.Labelling.{wordOf}
 use Rattle.labelling_tracing_events.proofs.Stamps.{zeros-below}
 use Rattle.labelling_comparison.proofs.ask.Statement.{statement}
 use Rattle.labelling_comparison.proofs.ask.Tie as tie
 
--- the word is within its list
-within : (c : tie.After-own-word) → c .own-word .result .len ≤ length (c .own-word .last .1 .1 .1 .1 .1 .1 .0)
-within c =
-    let f = c .own-word .ensures .few in
-    let n = c .before .before .before .before .before .before .before .before .before .pre .0 .1 .size in
-    let k = c .own-word .kept .1 .1 .1 .1 .1 .1 .0 in
-    omega arith
+slice-aggregate-ask-in : tie.Need-slice-aggregate-ask-in
+slice-aggregate-ask-in c = search needs
 
-written : (c : tie.After-own-word) → take (c .own-word .result .len) (c .own-word .last .1 .1 .1 .1 .1 .1 .0) ≡ wordOf (now (c .before .before .before .before .before .before .before .before .before .args .t0)) (now (c .before .before .before .before .before .before .before .before .before .args .t1)) (c .before .before .before .before .before .before .before .before .before .args .q)
-written c = rw (c .own-word .ensures .word-is) (take-at _ _ _ (sym (c .own-word .ensures .length-is)))
+slice-aggregate-ask-in-2 : tie.Need-slice-aggregate-ask-in-2
+slice-aggregate-ask-in-2 c = search needs
 
-slice-aggregate-own-word : tie.Need-slice-aggregate-own-word
-slice-aggregate-own-word c = search needs
-
-cast-own-word : tie.Need-cast-own-word
-cast-own-word c = search needs
-
-slice-aggregate-own-word-2 : tie.Need-slice-aggregate-own-word-2
-slice-aggregate-own-word-2 c = search needs
-
-own-word-requires : tie.Need-own-word-requires
-own-word-requires c κs = let a = c .before .before .before .before .before .before .before .before .pre .0 .1 in ((accepts-mapped a, a .root-in), (zeros-below 1025 (let n = a .size in omega arith) (a .root-in .0), (ring-empty, (let n = a .size in omega arith))))
-
-slice-aggregate-answer : tie.Need-slice-aggregate-answer
-slice-aggregate-answer c = search needs
-
-cast-answer : tie.Need-cast-answer
-cast-answer c = search needs
-
-array-share-prefix-word : tie.Need-array-share-prefix-word
-array-share-prefix-word c = search needs
-
-slice-aggregate-answer-2 : tie.Need-slice-aggregate-answer-2
-slice-aggregate-answer-2 c = sym (length-take-le _ _ (within (c .before .before .before .before .before .before)))
-
-answer-requires : tie.Need-answer-requires
-answer-requires c κs =
-    let p = c .before .before .before .before .before .before .before .before .before .before .before .before .before .before .before .pre in
-    let k = c .before .before .before .before .before .before .own-word .kept .1 .1 .0 in
-    (p .0 .0, ((let n = p .0 .0 .size in omega arith), (c .before .before .before .before .before .before .own-word .ensures .none-pending, rw (written (c .before .before .before .before .before .before)) (p .1))))
+ask-in-requires : tie.Need-ask-in-requires
+ask-in-requires c κs = let p = c .before .before .before .before .before .before .before .pre in (p .0, (p .1 .0, (p .1 .1, (zeros-below 65 (omega arith) (omega arith), omega arith))))
 
 returns : tie.Need-returns
-returns c = rw (written (c .before .before .before .before .before .before .before .before)) at (c .before .answer .ensures)
+returns c = search needs
+
+slice-aggregate-ask-in-3 : tie.Need-slice-aggregate-ask-in-3
+slice-aggregate-ask-in-3 c = search needs
+
+slice-aggregate-ask-in-4 : tie.Need-slice-aggregate-ask-in-4
+slice-aggregate-ask-in-4 c = search needs
+
+ask-in-requires-2 : tie.Need-ask-in-requires-2
+ask-in-requires-2 c κs = let p = c .before .before .before .before .before .before .before .pre in let n = p .0 .1 .size in (p .0, (p .1 .0, (p .1 .1, (zeros-below 1025 (omega arith) (omega arith), omega arith))))
+
+returns-2 : tie.Need-returns-2
+returns-2 c = search needs
 
 pub ask-spec : {M : Type 1} → statement M
 ask-spec =
     tie.close
     (tie.spec
-    slice-aggregate-own-word
-    cast-own-word
-    slice-aggregate-own-word-2
-    own-word-requires
-    slice-aggregate-answer
-    cast-answer
-    array-share-prefix-word
-    slice-aggregate-answer-2
-    answer-requires
-    returns)
+    slice-aggregate-ask-in
+    slice-aggregate-ask-in-2
+    ask-in-requires
+    returns
+    slice-aggregate-ask-in-3
+    slice-aggregate-ask-in-4
+    ask-in-requires-2
+    returns-2)
