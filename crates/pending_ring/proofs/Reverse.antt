@@ -3,12 +3,12 @@
 use mathlib.Core.Path.{_≡_, _∙_}
 use mathlib.Core.Logic.{inl, inr, ⊎-elim}
 use mathlib.Core.List.{List, [], _∷_, reverse, reverseAux, reverse-cons}
-use Prim.Native.Nat.{ℕ, zero, suc, _+_, _<_}
+use Prim.Native.Nat.{ℕ, zero, suc, _+_, _-_, _<_}
 use native.Mathlib.Omega.{arith}
 use lib.ListN.{length, getD, length-reverse, List·getD-append}
 use lib.Seq.{getD-append-seam}
-use Rattle.lists.specs.Lists.{Has, Distinct, All}
-use Rattle.lists.proofs.Lists.{has-snoc, distinct-snoc, all-append}
+use Rattle.lists.specs.Lists.{Has, Distinct, All, find}
+use Rattle.lists.proofs.Lists.{has-snoc, distinct-snoc, all-append, has-getD, find-lt, getD-find, find-getD}
 use Rattle.pending_ring.specs.Ring.{Linked, Ring}
 
 -- ---- reversed lists
@@ -33,6 +33,24 @@ getD-reverse (x ∷ s) zero e h =
     rw (reverse-cons x s, k) (getD-append-seam (reverse s) x [] 0)
 getD-reverse (x ∷ s) (suc d) e h =
     rw (reverse-cons x s) (List·getD-append (reverse s) (x ∷ []) 0 e (omega (arith, length-reverse s)) ∙ getD-reverse s d e (omega arith))
+
+-- so far as x stands from the one end, it stands from the other
+module _ (x : ℕ) (s : List ℕ) (h : Has x s) where
+  has-reverse-at : (e : ℕ) → suc (find x s + e) ≡ length s → getD (reverse s) e 0 ≡ x
+  has-reverse-at e k = getD-reverse s (find x s) e k ∙ getD-find x s h
+
+  pub has-reverse : Has x (reverse s)
+  has-reverse =
+      let l = find-lt x s h in
+      let e : suc (find x s + (length s - 1 - find x s)) ≡ length s = omega arith in
+      rw (has-reverse-at (length s - 1 - find x s) e) at (has-getD (reverse s) (length s - 1 - find x s) (omega (arith, length-reverse s)))
+
+  pub find-reverse : Distinct s → suc (find x s + find x (reverse s)) ≡ length s
+  find-reverse u =
+      let l = find-lt x s h in
+      let e : suc (find x s + (length s - 1 - find x s)) ≡ length s = omega arith in
+      let f = find-getD (reverse s) (length s - 1 - find x s) (distinct-reverse s u) (omega (arith, length-reverse s)) in
+      omega (arith, rw (has-reverse-at (length s - 1 - find x s) e) at f)
 
 -- ---- the ring
 

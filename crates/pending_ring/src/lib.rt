@@ -76,6 +76,28 @@ pub fn depth(next: &[u16; 1025], l: u16) -> usize
     d
 }
 
+// How many places below the top of a stack of that height the pending label l stands: two walks in step, down from the top and up from
+// the bottom, until one of them meets l.
+pub fn depth_between(next: &[u16; 1025], prev: &[u16; 1025], l: u16, height: usize) -> usize
+    requires { ⌜ ((s : List ℕ) × Ring (now next) (now prev) s × Has l s × (height ≡ length s)) ⌝ }
+    ensures { λ r. ⌜ ((s : List ℕ) → Ring (now (next .entry)) (now (prev .entry)) s → Has l s → height ≡ length s → r ≡ find l s) ⌝ }
+{
+    let mut down: usize = 0;
+    let mut up: usize = 0;
+    let mut i: usize = 0;
+    while next[down] != l {
+        if prev[up] == l {
+            return height - 1 - i;
+        }
+        let below = next[down];
+        let above = prev[up];
+        down = to_index(below);
+        up = to_index(above);
+        i += 1;
+    }
+    i
+}
+
 // The label that stands d places below the top. With the links back for next, it is the one d places above the bottom.
 fn label_at(next: &[u16; 1025], d: usize) -> u16
     requires { ⌜ ((pv : List ℕ) × (s : List ℕ) × Ring (now next) pv s × (d < length s)) ⌝ }
