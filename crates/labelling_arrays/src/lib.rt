@@ -33,6 +33,16 @@ pub fn give_label(labels: &mut [u16], order: &mut [u16], given: u16, x: u16) -> 
     label
 }
 
+// The pending edge p, d places below the top, is taken out, and the item Jd returned.
+fn join_at(next: &mut [u16; 1025], prev: &mut [u16; 1025], p: u16, d: usize) -> u16
+    requires { ⌜ ((st : List ℕ) × Ring (now next) (now prev) st × Has p st × (d ≡ find p st)) ⌝ }
+    ensures { λ r. ⌜ ((st : List ℕ) → Ring (now (next .entry)) (now (prev .entry)) st → Has p st → d ≡ find p st
+        → (r ≡ suc (suc (suc (find p st)))) × Ring (now (next .exit)) (now (prev .exit)) (removeAt (find p st) st)) ⌝ }
+{
+    pending_ring::unhook(next, prev, p);
+    (d + 3) as u16
+}
+
 // Jd: the partner p is pending. It is taken out, and the item returned.
 pub fn join_pending(next: &mut [u16; 1025], prev: &mut [u16; 1025], p: u16) -> u16
     requires { ⌜ ((st : List ℕ) × Ring (now next) (now prev) st × Has p st) ⌝ }
@@ -40,8 +50,21 @@ pub fn join_pending(next: &mut [u16; 1025], prev: &mut [u16; 1025], p: u16) -> u
         → (r ≡ suc (suc (suc (find p st)))) × Ring (now (next .exit)) (now (prev .exit)) (removeAt (find p st) st)) ⌝ }
 {
     let d = pending_ring::depth(next, p);
-    pending_ring::unhook(next, prev, p);
-    (d + 3) as u16
+    join_at(next, prev, p, d)
+}
+
+// The same in a stack of a known height: from 32 edges on, counting the depth from both ends is faster than from the top alone.
+pub fn join_counted(next: &mut [u16; 1025], prev: &mut [u16; 1025], p: u16, height: u16) -> u16
+    requires { ⌜ ((st : List ℕ) × Ring (now next) (now prev) st × Has p st × (height ≡ length st)) ⌝ }
+    ensures { λ r. ⌜ ((st : List ℕ) → Ring (now (next .entry)) (now (prev .entry)) st → Has p st → height ≡ length st
+        → (r ≡ suc (suc (suc (find p st)))) × Ring (now (next .exit)) (now (prev .exit)) (removeAt (find p st) st)) ⌝ }
+{
+    if height < 32 {
+        return join_pending(next, prev, p);
+    }
+    let h = to_index(height);
+    let d = pending_ring::depth_between(next, prev, p, h);
+    join_at(next, prev, p, d)
 }
 
 // F: the edges p, q and s round a black vertex get the next labels, and the last two are pushed.

@@ -25,12 +25,12 @@ use Rattle.labelling_events.specs.declared.EventItem.{EventItem}
 abbrev pub prefixWord : List ℕ → Labelled → Labelled
 prefixWord w q = record { marked = q .marked; word = w ++ q .word }
 
--- the items w are written; the labelling stands at `marked` and `stack`, with `left` moves left
-pub record Sofar (s0 s1 : List ℕ) (root : ℕ) (la od nx pv : List ℕ) (c : ℕ) (w : List ℕ) : Type 0 where
+-- the items w are written; the labelling stands at `marked` and `stack`, of height t, with `left` moves left
+pub record Sofar (s0 s1 : List ℕ) (root : ℕ) (la od nx pv : List ℕ) (c t : ℕ) (w : List ℕ) : Type 0 where
   pub marked : List ℕ
   pub stack : List ℕ
   pub left : ℕ
-  pub underway : Underway s0 s1 la od nx pv c marked stack
+  pub underway : Underway s0 s1 la od nx pv c t marked stack
   pub moves : length w + left ≡ suc (length s0)
   pub enough : length stack + length s0 ≤ left + length marked
   pub whole : prefixWord w (events (at s0) (at s1) left marked stack) ≡ label (length s0) (at s0) (at s1) root
@@ -41,7 +41,7 @@ first-even : (b : Bool) (p q s : ℕ) → length (firstEvent b p q s .stack) ≡
 first-even true p q s = refl
 first-even false p q s = refl
 
-pub sofar-begin : (s0 s1 : List ℕ) (root : ℕ) (la od nx pv : List ℕ) (e : EventItem) → EventDone s0 s1 la od nx pv (firstEventOf s0 root) e → Sofar s0 s1 root la od nx pv (e .given) (e .item ∷ [])
+pub sofar-begin : (s0 s1 : List ℕ) (root : ℕ) (la od nx pv : List ℕ) (e : EventItem) → EventDone s0 s1 la od nx pv (firstEventOf s0 root) e → Sofar s0 s1 root la od nx pv (e .given) (e .height) (e .item ∷ [])
 unfolding label
 sofar-begin s0 s1 root la od nx pv e d = record {
   marked = firstEventOf s0 root .marked;
@@ -55,7 +55,7 @@ sofar-begin s0 s1 root la od nx pv e d = record {
 
 -- ---- from one event to the next
 
-module _ (s0 s1 : List ℕ) (root : ℕ) (la od nx pv : List ℕ) (c : ℕ) (w : List ℕ) (S : Sofar s0 s1 root la od nx pv c w) where
+module _ (s0 s1 : List ℕ) (root : ℕ) (la od nx pv : List ℕ) (c t : ℕ) (w : List ℕ) (S : Sofar s0 s1 root la od nx pv c t w) where
   -- the sentinel's link tells whether an edge is pending
   pub sofar-pending : getD nx 0 0 ≢ 0 → (k : ℕ) × (r : List ℕ) × (S .stack ≡ k ∷ r)
   sofar-pending n = go (S .stack) (ring-top nx pv (S .stack) (S .underway .ring))
@@ -83,14 +83,14 @@ module _ (s0 s1 : List ℕ) (root : ℕ) (la od nx pv : List ℕ) (c : ℕ) (w :
   sofar-room k r e = let i = move-left k r e in let j = S .moves in omega arith
 
   pub sofar-event : (k : ℕ) (r : List ℕ) → S .stack ≡ k ∷ r → (la′ od′ nx′ pv′ : List ℕ) (e : EventItem) → EventDone s0 s1 la′ od′ nx′ pv′ (event (at s0) (at s1) (S .marked) k r) e
-      → Sofar s0 s1 root la′ od′ nx′ pv′ (e .given) (w ++ (e .item ∷ []))
+      → Sofar s0 s1 root la′ od′ nx′ pv′ (e .given) (e .height) (w ++ (e .item ∷ []))
   unfolding events
   sofar-event k r q la′ od′ nx′ pv′ e d = go (S .left) refl (move-left k r q)
     where
       fall : suc (length (event (at s0) (at s1) (S .marked) k r .stack) + length (S .marked)) ≤ length (k ∷ r) + length (event (at s0) (at s1) (S .marked) k r .marked)
       fall = falls (length s0) (at s0) (at s1) (S .underway .mapped .maps) (S .marked) k r (rw q at (S .underway .along))
 
-      go : (m : ℕ) → S .left ≡ m → 0 < m → Sofar s0 s1 root la′ od′ nx′ pv′ (e .given) (w ++ (e .item ∷ []))
+      go : (m : ℕ) → S .left ≡ m → 0 < m → Sofar s0 s1 root la′ od′ nx′ pv′ (e .given) (e .height) (w ++ (e .item ∷ []))
       go zero i h = absurd (omega arith)
       go (suc m) i h = record {
         marked = event (at s0) (at s1) (S .marked) k r .marked;
@@ -127,21 +127,21 @@ module _ (s0 s1 : List ℕ) (root : ℕ) (m : RootedMaps s0 s1 root) where
 
 -- ---- the items in a list: its first m places, before what it held
 
-pub record Filled (s0 s1 : List ℕ) (root : ℕ) (la od nx pv : List ℕ) (c : ℕ) (w a b : List ℕ) (m : ℕ) : Type 0 where
-  pub sofar : Sofar s0 s1 root la od nx pv c w
+pub record Filled (s0 s1 : List ℕ) (root : ℕ) (la od nx pv : List ℕ) (c t : ℕ) (w a b : List ℕ) (m : ℕ) : Type 0 where
+  pub sofar : Sofar s0 s1 root la od nx pv c t w
   pub counted : length w ≡ m
   pub written : b ≡ w ++ drop m a
 
 -- the first item stands in the list already when the loop begins
 pub filled-begin : (s0 s1 : List ℕ) (root : ℕ) (la od nx pv : List ℕ) (e : EventItem) (a : List ℕ) → 0 < length a → EventDone s0 s1 la od nx pv (firstEventOf s0 root) e
-    → Filled s0 s1 root la od nx pv (e .given) (e .item ∷ []) (set a 0 (e .item)) (set a 0 (e .item)) 1
+    → Filled s0 s1 root la od nx pv (e .given) (e .height) (e .item ∷ []) (set a 0 (e .item)) (set a 0 (e .item)) 1
 filled-begin s0 s1 root la od nx pv e a h d = record { sofar = sofar-begin s0 s1 root la od nx pv e d; counted = refl; written = go a h }
   where
     go : (a : List ℕ) → 0 < length a → set a 0 (e .item) ≡ e .item ∷ drop 1 (set a 0 (e .item))
     go [] h = absurd (omega arith)
     go (x ∷ a) h = refl
 
-module _ (s0 s1 : List ℕ) (root : ℕ) (la od nx pv : List ℕ) (c : ℕ) (w a b : List ℕ) (m : ℕ) (F : Filled s0 s1 root la od nx pv c w a b m) where
+module _ (s0 s1 : List ℕ) (root : ℕ) (la od nx pv : List ℕ) (c t : ℕ) (w a b : List ℕ) (m : ℕ) (F : Filled s0 s1 root la od nx pv c t w a b m) where
   pub filled-few : m ≤ suc (length s0)
   filled-few = let i = F .sofar .moves in let j = F .counted in omega arith
 
@@ -149,30 +149,30 @@ module _ (s0 s1 : List ℕ) (root : ℕ) (la od nx pv : List ℕ) (c : ℕ) (w a
   filled-length h = rw (F .written) (written-length a w m (F .counted) (let i = filled-few in omega arith))
 
   -- while an edge is pending: the event's state, and room for its item
-  pub filled-event : getD nx 0 0 ≢ 0 → (o : List ℕ) × (k : ℕ) × (r : List ℕ) × Underway s0 s1 la od nx pv c o (k ∷ r)
-  filled-event n = let (k, r, q) = sofar-pending s0 s1 root la od nx pv c w (F .sofar) n in (F .sofar .marked, k, r, rw q at (F .sofar .underway))
+  pub filled-event : getD nx 0 0 ≢ 0 → (o : List ℕ) × (k : ℕ) × (r : List ℕ) × Underway s0 s1 la od nx pv c t o (k ∷ r)
+  filled-event n = let (k, r, q) = sofar-pending s0 s1 root la od nx pv c t w (F .sofar) n in (F .sofar .marked, k, r, rw q at (F .sofar .underway))
 
   pub filled-room : getD nx 0 0 ≢ 0 → m ≤ length s0
   filled-room n =
-      let (k, r, q) = sofar-pending s0 s1 root la od nx pv c w (F .sofar) n in
-      let i = sofar-room s0 s1 root la od nx pv c w (F .sofar) k r q in
+      let (k, r, q) = sofar-pending s0 s1 root la od nx pv c t w (F .sofar) n in
+      let i = sofar-room s0 s1 root la od nx pv c t w (F .sofar) k r q in
       let j = F .counted in
       omega arith
 
   pub filled-more : getD nx 0 0 ≢ 0 → length s0 < length a → (la′ od′ nx′ pv′ : List ℕ) (e : EventItem)
-      → ((o : List ℕ) (k : ℕ) (r : List ℕ) → Underway s0 s1 la od nx pv c o (k ∷ r) → EventDone s0 s1 la′ od′ nx′ pv′ (event (at s0) (at s1) o k r) e)
-      → Filled s0 s1 root la′ od′ nx′ pv′ (e .given) (w ++ (e .item ∷ [])) a (set b m (e .item)) (m + 1)
+      → ((o : List ℕ) (k : ℕ) (r : List ℕ) → Underway s0 s1 la od nx pv c t o (k ∷ r) → EventDone s0 s1 la′ od′ nx′ pv′ (event (at s0) (at s1) o k r) e)
+      → Filled s0 s1 root la′ od′ nx′ pv′ (e .given) (e .height) (w ++ (e .item ∷ [])) a (set b m (e .item)) (m + 1)
   filled-more n h la′ od′ nx′ pv′ e d =
-      let (k, r, q) = sofar-pending s0 s1 root la od nx pv c w (F .sofar) n in
+      let (k, r, q) = sofar-pending s0 s1 root la od nx pv c t w (F .sofar) n in
       let i = filled-room n in
       record {
-        sofar = sofar-event s0 s1 root la od nx pv c w (F .sofar) k r q la′ od′ nx′ pv′ e (d (F .sofar .marked) k r (rw q at (F .sofar .underway)));
+        sofar = sofar-event s0 s1 root la od nx pv c t w (F .sofar) k r q la′ od′ nx′ pv′ e (d (F .sofar .marked) k r (rw q at (F .sofar .underway)));
         counted = simp length-append (let j = F .counted in omega arith);
         written = rw (F .written) (written-more a w m (e .item) (F .counted) (omega arith));
       }
 
   filled-empty : getD nx 0 0 ≡ 0 → F .sofar .stack ≡ []
-  filled-empty z = sofar-empty s0 s1 root la od nx pv c w (F .sofar) z
+  filled-empty z = sofar-empty s0 s1 root la od nx pv c t w (F .sofar) z
 
   pub filled-end : getD nx 0 0 ≡ 0 → WordWritten s0 s1 root la od a b m c
   filled-end z = record {
@@ -183,7 +183,7 @@ module _ (s0 s1 : List ℕ) (root : ℕ) (la od nx pv : List ℕ) (c : ℕ) (w a
   }
     where
       end : (wordOf s0 s1 root ≡ w) × (labels s0 s1 root ≡ F .sofar .marked)
-      end = sofar-end s0 s1 root la od nx pv c w (F .sofar) (filled-empty z)
+      end = sofar-end s0 s1 root la od nx pv c t w (F .sofar) (filled-empty z)
 
   pub filled-none-pending : getD nx 0 0 ≡ 0 → Ring nx pv []
   filled-none-pending z = rw (filled-empty z) at (F .sofar .underway .ring)

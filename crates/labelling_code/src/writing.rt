@@ -40,11 +40,13 @@ pub fn write_word(
     let first = begin(s0, labels, order, next, prev, root);
     word[0] = first.item;
     let mut given = first.given;
+    let mut height = first.height;
     let mut len: usize = 1;
     while next[0] != 0 {
-        let done = event(s0, s1, labels, order, next, prev, given);
+        let done = event(s0, s1, labels, order, next, prev, given, height);
         word[len] = done.item;
         given = done.given;
+        height = done.height;
         len += 1;
     }
     Extent { len, given }

@@ -12,7 +12,7 @@ use Rattle.pending_ring.specs.Ring.{Ring}
 use Rattle.pending_ring.proofs.Laws.{ring-top}
 use Rattle.labelling.specs.Labelling.{event, events, label, labels, wordOf}
 use Rattle.labelling_events.specs.Scratch.{firstEventOf}
-use Rattle.labelling_events.specs.declared.EventItem.{EventItem}
+use Rattle.labelling_tracing_events.specs.declared.EventItem.{EventItem}
 use Rattle.labelling_tracing_events.specs.Stamps.{Underway, EventDone}
 use Rattle.labelling_tracing.specs.Traced.{WordWritten}
 use Rattle.labelling_tracing.proofs.Standing.{Standing, standing-begin, standing-room, standing-event, standing-end}

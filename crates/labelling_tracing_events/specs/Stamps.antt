@@ -16,7 +16,7 @@ use Rattle.lists.specs.Ranges.{OneTo}
 use Rattle.diagrams.specs.Check.{Mapped}
 use Rattle.pending_ring.specs.Ring.{Ring}
 use Rattle.labelling.specs.Labelling.{Event, LabellingInvariant}
-use Rattle.labelling_events.specs.declared.EventItem.{EventItem}
+use Rattle.labelling_tracing_events.specs.declared.EventItem.{EventItem}
 
 pub record Below (n : ℕ) (sp : List ℕ) (t : ℕ) : Type 0 where
   pub long : n < length sp

@@ -2,7 +2,6 @@
 // labelling. A next labelling has a greater number, so that nothing is cleared between the two. The pending ring holds edges.
 use labelling_arrays::follow;
 use labelling_arrays::join_pending;
-use labelling_events::EventItem;
 use lists::to_index;
 ghost use mathlib.Core.Path.{_≡_};
 ghost use mathlib.Core.List.{List, [], _∷_};
@@ -15,6 +14,12 @@ ghost use Rattle.pending_ring.specs.Ring.{Ring};
 ghost use Rattle.labelling.specs.Labelling.{event};
 ghost use Rattle.labelling_events.specs.Scratch.{firstEventOf};
 ghost use Rattle.labelling_tracing_events.specs.Stamps.{Below, Underway, EventDone};
+
+// An event's item, and how many labels are given after it.
+pub struct EventItem {
+    pub item: u16,
+    pub given: u16,
+}
 
 // Labels edge x: gives it the stamp.
 fn stamp_edge(stamps: &mut [u16], stamp: u16, x: u16)
