@@ -104,10 +104,6 @@ module _ (s0 s1 : List ℕ) (root : ℕ) (la od nx pv : List ℕ) (c t : ℕ) (w
 
   -- ---- the end
 
-  pub sofar-word : (rest : List ℕ) × (wordOf s0 s1 root ≡ w ++ rest)
-  unfolding wordOf
-  sofar-word = (events (at s0) (at s1) (S .left) (S .marked) (S .stack) .word, ap (λ (q : Labelled). q .word) (sym (S .whole)))
-
   run-end : (m : ℕ) (o : List ℕ) → events (at s0) (at s1) m o [] ≡ record { marked = o; word = [] }
   unfolding events
   run-end zero o = refl
