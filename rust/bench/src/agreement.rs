@@ -334,15 +334,15 @@ fn spoil(random: &mut Random, book: &mut Book) {
     }
 }
 
-/// Tickets that are equal modulo 64 at the shares that are not finished; now and then two are equal.
+/// Tickets that are equal modulo 128 at the shares that are not finished; now and then two are equal.
 fn clash(random: &mut Random, book: &mut Book) {
-    let first = 1 + random.below(64);
+    let first = 1 + random.below(128);
     let open = (0..book.shares as usize).filter(|&i| book.next[i] <= (i as u64 + 1) * count_of(book.size as usize) / book.shares);
     for (far, i) in open.collect::<Vec<_>>().into_iter().enumerate() {
         let far = far as u64 - (far > 0 && random.below(40) == 0) as u64;
-        book.ticket[i] = first + 64 * far;
+        book.ticket[i] = first + 128 * far;
     }
-    book.issued = first + 64 * 32;
+    book.issued = first + 128 * 32;
 }
 
 /// The calls of one side.

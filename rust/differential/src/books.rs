@@ -190,11 +190,11 @@ pub fn life(random: &mut Random, counts: &mut OutcomeCounts) -> Compared {
 }
 
 /// Calls with a book whose tickets are old and far apart, as where shares were claimed long ago and others since again and again: several are equal modulo
-/// 64, some shares have none. In a copy of the book two tickets are equal, whether or not others are alike.
+/// 128, some shares have none. In a copy of the book two tickets are equal, whether or not others are alike.
 pub fn old_tickets(random: &mut Random, counts: &mut OutcomeCounts) -> Compared {
     let mut book = Book::blank();
     book.open(random.between(8, 50), random.between(3, 32)).expect("a size and shares in range");
-    let (far, first) = (random.choose(&[64, 64, 128, 192]), random.between(1, 70));
+    let (far, first) = (random.choose(&[64, 128, 128, 256]), random.between(1, 70));
     let shares = book.shares as usize;
     let patience = random.choose(&[1, 40, 2000]);
     book.latest = random.between(0, 100_000);
@@ -208,9 +208,9 @@ pub fn old_tickets(random: &mut Random, counts: &mut OutcomeCounts) -> Compared 
     let session = Session { tickets: book.ticket.into_iter().filter(|ticket| *ticket != 0).collect(), position: book.next[0] };
     for _ in 0..4 {
         let next = next_call(random, &book, &session, patience);
-        named_call("tickets modulo 64", &mut book.clone(), &next, counts)?;
+        named_call("tickets modulo 128", &mut book.clone(), &next, counts)?;
         let mut copy = book.clone();
-        // Tickets that differ modulo 64 but for two that are equal, or the same ones with two equal.
+        // Tickets that differ modulo 128 but for two that are equal, or the same ones with two equal.
         if random.percent(50) {
             copy.ticket.iter_mut().filter(|ticket| **ticket != 0).for_each(|ticket| *ticket = 1 + (*ticket - first) / far);
         }

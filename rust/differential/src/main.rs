@@ -68,7 +68,7 @@ const COMPARISONS: [(Comparison, &[&str]); 30] = [
     (upto::steps, &["upto step"]),
     (sheets::sheet_positions, &["sheet positions"]),
     (books::open, &["open"]),
-    (books::old_tickets, &["tickets modulo 64", "equal tickets"]),
+    (books::old_tickets, &["tickets modulo 128", "equal tickets"]),
     (books::life, &["claim", "take", "commit", "commit range", "release", "report"]),
 ];
 

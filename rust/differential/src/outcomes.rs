@@ -65,8 +65,8 @@ pub const OPERATIONS: [(&str, &[&str], &[u16]); 45] = [
     // each cell of the sheets that are taken
     ("cell of a sheet", &["position"], &[61, 21, 26, 22, 23, 25, 31]),
     ("open", &["accepted"], &[31, 51]),
-    // any call with a book whose tickets differ, but several are equal modulo 64; and with one that has two equal tickets
-    ("tickets modulo 64", &["accepted", "open"], &[52, 53, 54, 56, 58, 59, 60, 9]),
+    // any call with a book whose tickets differ, but several are equal modulo 128; and with one that has two equal tickets
+    ("tickets modulo 128", &["accepted", "open"], &[52, 53, 54, 56, 58, 59, 60, 9]),
     ("equal tickets", &[], &[50]),
     ("claim", &["accepted"], &[50, 52, 53, 54, 55, 56, 57]),
     ("take", &["accepted"], &[50, 52, 58, 59, 9]),

@@ -32,11 +32,11 @@ pub fn claimed(shares: u64) -> Book {
     book
 }
 
-/// A book of 32 shares whose tickets differ and are all equal modulo 64, as old tickets that still stand may be.
+/// A book of 32 shares whose tickets differ and are all equal modulo 128, as old tickets that still stand may be.
 pub fn clashing() -> Book {
     let mut book = claimed(32);
     for (i, ticket) in (0..).zip(&mut book.ticket) {
-        *ticket = 1 + 64 * i;
+        *ticket = 1 + 128 * i;
     }
     book.issued = book.ticket[31];
     book

@@ -29,14 +29,14 @@ fn valid(book: &Book) -> bool {
     shares_valid(book) && unused(&book.next) | unused(&book.ticket) | unused(&book.expiry) == 0
 }
 
-/// One loop over the shares, each share's last position found from the one before. Tickets other than 0 that differ modulo 64 differ; only where two do
-/// not are they compared with one another.
+/// One loop over the shares, each share's last position found from the one before. Tickets other than 0 that differ modulo 128 differ; only where two do
+/// not are they compared with one another. A share without a ticket has a mark of its own.
 fn shares_valid(book: &Book) -> bool {
     let (k, total) = (book.shares, count_of(book.size as usize));
     let (step, part) = (total / k, total % k);
     let (mut before, mut rest) = (0, 0);
-    let (mut seen, mut clash) = ([false; 64], false);
-    for ((&next, &ticket), &expiry) in book.next.iter().zip(&book.ticket).zip(&book.expiry).take(k as usize) {
+    let (mut seen, mut clash) = ([false; 128 + MAX_SHARES as usize], false);
+    for (i, ((&next, &ticket), &expiry)) in book.next.iter().zip(&book.ticket).zip(&book.expiry).take(k as usize).enumerate() {
         rest += part;
         let more = (rest >= k) as u64;
         rest -= more * k;
@@ -46,9 +46,9 @@ fn shares_valid(book: &Book) -> bool {
         if !(placed && ticket <= book.issued && (ticket != 0 || expiry == 0) && expiry <= book.latest + MAX_LENGTH) {
             return false;
         }
-        let seen = &mut seen[ticket as usize % 64];
-        clash |= *seen & (ticket != 0);
-        *seen |= ticket != 0;
+        let seen = &mut seen[if ticket == 0 { 128 + i } else { ticket as usize % 128 }];
+        clash |= *seen;
+        *seen = true;
     }
     !clash || differ(&book.ticket[..k as usize])
 }
