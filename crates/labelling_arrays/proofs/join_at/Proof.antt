@@ -1,5 +1,4 @@
 -- `join_at` meets its contract: the depth is the edge's place in the stack, and at most 1,024 edges are pending, so the item fits.
-use borrow.Author.Needs.{needs}
 use Prim.Native.Nat.{_<_}
 use native.Mathlib.Omega.{arith}
 use Rattle.lists.proofs.Lists.{find-lt}
