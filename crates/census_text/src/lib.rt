@@ -2,6 +2,7 @@
 // listed and kept. It goes to standard output, a part at a time (crate census_parts). Empty input prints the summary of the small sizes (crate
 // census_summary), and other input that names no size of 1..50 `refused 31` (crate census_size). What is not proved here: that the input is read,
 // and that the bytes handed to standard output arrive.
+#![tactic(auto)]
 ghost use Rattle.std.specs.Prelude.{◌≤◌, length};
 ghost use Rattle.lists.specs.Ranges.{OneTo};
 

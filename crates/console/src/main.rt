@@ -44,6 +44,7 @@
 //   book                                           SIZE K LATEST ISSUED NEXT TICKET EXPIRY, three lists of 32; all zeros before any open
 //   set size V, shares V, latest V, issued V       ok; writes a field of the book
 //   set next J V, ticket J V, expiry J V           ok; writes share J's, 1 to 32
+#![tactic(auto)]
 mod commands;
 
 ghost use Rattle.text_printing.specs.Printing.{output};

@@ -1,5 +1,6 @@
 // The lines of standard input, one after another, in a buffer of more than LONGEST bytes. A line that is longer than LONGEST is given as an empty
 // one, and what follows of it is passed over. Module output writes the answers out.
+#![tactic(auto)]
 pub mod output;
 
 ghost use Rattle.std.specs.Prelude.{◌≤◌, ◌<◌, length};

@@ -2,6 +2,7 @@
 // run as 54 (c/kaldvemir.h has the declarations). Each function calls its operation, returns the number of the answer, 0 or 01's refusal, and
 // writes the values that the answer has through the references that stand last; of what stands behind these it reads nothing. Each contract
 // passes on the promise of the operation.
+#![tactic(auto)]
 pub mod books;
 pub mod given;
 pub mod listed;

@@ -1,4 +1,5 @@
 // The answers of the share book's operations, told through the boundary as those of crate kaldvemir_answers are.
+#![tactic(auto)]
 ghost use Rattle.std.specs.Prelude.{◌≡◌, cond};
 ghost use Rattle.book.specs.Answers as answers;
 

@@ -1,1 +1,2 @@
 // The labelling of a rooted diagram: definitions (specs) and the theorems about it (proofs). No code.
+#![tactic(auto)]

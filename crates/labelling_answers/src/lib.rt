@@ -1,5 +1,6 @@
 // What relabel, compare, symmetries and kept answer. The answers' numbers and values are in specs/Answers, and what each operation
 // promises in specs/Promises.
+#![tactic(auto)]
 
 // The length of the word written, or a refusal.
 #[derive(Drop)]

@@ -1,6 +1,7 @@
 // What an event does to the lent arrays of a labelling: `labels` (the label of each edge, 0 where it has none), `order` (the edge of each
 // label) and the pending ring, which holds edges. The first two are as long as the caller's diagrams need: clearing arrays for the
 // largest size would take longer than the labelling of a small diagram.
+#![tactic(auto)]
 ghost use Rattle.std.specs.Prelude.{◌≡◌, List, ◌∷◌, ℕ, suc, ◌+◌, ◌<◌, ◌≤◌, length};
 ghost use Rattle.lists.specs.Lists.{at, Has, find, remove_at};
 ghost use Rattle.lists.specs.Ranges.{OneTo};

@@ -1,6 +1,7 @@
 // A word among the words of a diagram's rootings. None_before and some_rooting ask for an accepted diagram, a stamp for each edge and an
 // empty ring, which they leave empty: whoever knows its diagram to be good calls them without a check. They clear the stamps once for all
 // rootings. U_comes_first looks at s0 alone, and often answers before a word is written.
+#![tactic(auto)]
 pub mod least;
 
 ghost use Rattle.std.specs.Prelude.{◌≡◌, ◌↔◌, ◌≢◌, true, [], ℕ, ◌+◌, ◌<◌, length};

@@ -1,4 +1,5 @@
 // The events of the plain walk: what each leaves pending, and how many labels free.
+#![tactic(auto)]
 ghost use Rattle.std.specs.Prelude.{◌+◌, ◌<◌};
 ghost use Rattle.listing_plain_walk_events.specs.Events.{LeadsTo};
 

@@ -1,4 +1,6 @@
 // Laws about lists, ranges and tests that every layer above cites, and the small functions of code that they share.
+#![tactic(auto)]
+
 ghost use Rattle.std.specs.Prelude.{◌≡◌, true, false, cond, ◌+◌, ◌≤◌, leb, length};
 ghost use Rattle.lists.specs.Lists.{put};
 ghost use Rattle.lists.specs.Overwriting.{overwrite, overwrite_from};

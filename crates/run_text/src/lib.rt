@@ -1,6 +1,7 @@
 // The rows of a run as text, as a census has them: the next rows, at most as many as asked for, in a lent list of bytes. They are found in blocks
 // with their keep marks. Refuses 34, a run that is neither fresh, nor at a diagram, nor finished; a finished run answers "no rows"; then 9,
 // fewer bytes than the rows asked for can need.
+#![tactic(auto)]
 ghost use Rattle.std.specs.Prelude.{◌≡◌, ◌≢◌, ◌+◌, ◌-◌, ◌*◌, ◌≤◌, min, length};
 ghost use Rattle.lists.specs.Ranges.{OneTo};
 ghost use Rattle.listing.specs.Listing.{count};

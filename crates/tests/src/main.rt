@@ -2,6 +2,7 @@
 // (lent_book.rt). Standard input holds inputs of the census, each with a semicolon after it. Each is printed with its semicolon, and then what the
 // census prints. The file stdout was written from document 01, the listings of sizes 1, 2 and 4 that were handed over and the published counts, not
 // from what the program prints.
+#![tactic(auto)]
 mod counts;
 mod lent_book;
 

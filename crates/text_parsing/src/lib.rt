@@ -2,6 +2,7 @@
 //
 // A number is decimal digits, at least one, and fits 64 bits. A list is numbers up to 65,535 parted by commas; `-` is the empty list.
 // Whatever else is read is no number and no list, and is said to be bad.
+#![tactic(auto)]
 ghost use Rattle.std.specs.Prelude.{◌≤◌, length};
 
 #[derive(Drop)]

@@ -1,6 +1,7 @@
 // A run through all sizes up to a bound: the diagrams of the sizes 1 to n as a single list in dictionary order of words, each found from the one before, with
 // the branch visits so far. Its beginning refuses 31. A step refuses 34, a run that is neither fresh, nor at a diagram with its visits, nor finished; after the
 // last diagram it answers "end"; then it refuses 9, an output list that is short for the diagram that comes.
+#![tactic(auto)]
 ghost use Rattle.std.specs.Prelude.{◌≡◌, List, ℕ, ◌≤◌, length};
 ghost use Rattle.words.specs.Shape.{Word};
 ghost use Rattle.words.specs.Outputs.{Short};

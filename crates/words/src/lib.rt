@@ -1,4 +1,5 @@
 // Words: what a word spells (specs/Word), its event letters, and its dictionary order.
+#![tactic(auto)]
 ghost use Rattle.std.specs.Prelude.{◌≡◌, ◌∷◌, [], ◌<◌};
 ghost use Rattle.words.specs.Letters.{first_letter, LettersPromise};
 

@@ -1,4 +1,5 @@
 // Numbers in decimal, as ASCII bytes.
+#![tactic(auto)]
 ghost use Rattle.std.specs.Prelude.{◌≡◌, length};
 ghost use Rattle.words_decimals.specs.Decimals.{decimal, BytesPut};
 

@@ -1,4 +1,5 @@
 // Dictionary order of words: which of two comes first.
+#![tactic(auto)]
 ghost use Rattle.std.specs.Prelude.{◌≡◌, cond};
 ghost use Rattle.words_order.specs.Order.{precedes, lesser};
 
