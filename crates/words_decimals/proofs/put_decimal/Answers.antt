@@ -1,0 +1,41 @@
+-- The digits are written from the last to the first: what is left to write is a smaller decimal at the same place (`Left`).
+use mathlib.Core.Path.{refl, ap}
+use Prim.Native.Nat.{◌+◌}
+use native.Mathlib.Omega.{arith}
+use lib.ListN.{length-set}
+use borrow.Author.Rules.{rules}
+use Rattle.words_decimals.proofs.Decimal.{Left, left-more, left-last, decimal-some}
+use Rattle.words_decimals.proofs.Writing.{wrote-put, put-short}
+use Rattle.words_decimals.proofs.put_decimal.Goals as goal
+
+-- DROPPED overflow-sub-end
+-- sub-end : tie.Need-overflow-sub-end invariant-loop decreases-loop
+-- sub-end c = omega (arith, decimal-some c.before.loop.x)
+
+-- DROPPED overflow-cast-out
+-- cast-out : tie.Need-overflow-cast-out invariant-loop decreases-loop
+-- cast-out c = omega arith
+
+-- DROPPED overflow-add-out
+-- add-out : tie.Need-overflow-add-out invariant-loop decreases-loop
+-- add-out c = omega arith
+
+pub bounds-out-end : goal.bounds-out-end
+bounds-out-end c = omega (arith, decimal-some c.loop-x.x)
+
+pub loop-x-preserved : goal.loop-x-preserved
+loop-x-preserved c = left-more _ _ _ _ _ _ (omega arith) c.loop-x.invariant c.loop-x-test.true
+
+-- DROPPED overflow-cast-out-2
+-- cast-out-2 : tie.Need-overflow-cast-out-2 invariant-loop decreases-loop
+-- cast-out-2 c = omega arith
+
+-- DROPPED overflow-add-out-2
+-- add-out-2 : tie.Need-overflow-add-out-2 invariant-loop decreases-loop
+-- add-out-2 c = omega arith
+
+pub bounds-out-place : goal.bounds-out-place
+bounds-out-place c = omega (arith, decimal-some c.loop-x.x)
+
+pub returns : goal.returns
+returns c = wrote-put _ _ _ _ _ (omega arith) record { next = ap (λ k. c.args.place + k) c.decimal_length-n.ensures; bytes = left-last _ _ _ _ _ _ c.loop-x.invariant c.loop-x-test.false }
