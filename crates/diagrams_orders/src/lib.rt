@@ -1,5 +1,6 @@
 // The tests of check that follow a list from edge to edge: whether s0 thrice and s1 twice give every edge back.
 #![tactic(auto)]
+
 ghost use Rattle.std.specs.Prelude.{◌≡◌, ◌↔◌, true, length};
 ghost use Rattle.lists.specs.Lists.{at};
 ghost use Rattle.lists.specs.Ranges.{OneTo};
