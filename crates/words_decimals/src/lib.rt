@@ -1,5 +1,6 @@
 // Numbers in decimal, as ASCII bytes.
 #![tactic(auto)]
+
 ghost use Rattle.std.specs.Prelude.{◌≡◌, length};
 ghost use Rattle.words_decimals.specs.Decimals.{decimal, BytesPut};
 

@@ -8,31 +8,14 @@ use Rattle.words_decimals.proofs.Decimal.{Left, left-more, left-last, decimal-so
 use Rattle.words_decimals.proofs.Writing.{wrote-put, put-short}
 use Rattle.words_decimals.proofs.put_decimal.Goals as goal
 
--- DROPPED overflow-sub-end
--- sub-end : tie.Need-overflow-sub-end invariant-loop decreases-loop
--- sub-end c = omega (arith, decimal-some c.before.loop.x)
-
--- DROPPED overflow-cast-out
--- cast-out : tie.Need-overflow-cast-out invariant-loop decreases-loop
--- cast-out c = omega arith
-
--- DROPPED overflow-add-out
--- add-out : tie.Need-overflow-add-out invariant-loop decreases-loop
--- add-out c = omega arith
+pub overflow_sub-end : goal.overflow_sub-end
+overflow_sub-end c = omega (arith, decimal-some c.loop-x.x)
 
 pub bounds-out-end : goal.bounds-out-end
 bounds-out-end c = omega (arith, decimal-some c.loop-x.x)
 
 pub loop-x-preserved : goal.loop-x-preserved
 loop-x-preserved c = left-more _ _ _ _ _ _ (omega arith) c.loop-x.invariant c.loop-x-test.true
-
--- DROPPED overflow-cast-out-2
--- cast-out-2 : tie.Need-overflow-cast-out-2 invariant-loop decreases-loop
--- cast-out-2 c = omega arith
-
--- DROPPED overflow-add-out-2
--- add-out-2 : tie.Need-overflow-add-out-2 invariant-loop decreases-loop
--- add-out-2 c = omega arith
 
 pub bounds-out-place : goal.bounds-out-place
 bounds-out-place c = omega (arith, decimal-some c.loop-x.x)
