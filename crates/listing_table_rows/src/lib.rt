@@ -1,6 +1,7 @@
 // The high rows of the table, 6 to 18, a function for each row: its height, and in it the labels free. A `match` on a number compiles to one
 // load; a constant array would be built anew at each look-up.
 #![tactic(auto)]
+
 ghost use Rattle.std.specs.Prelude.{◌≡◌, get_or};
 ghost use Rattle.listing_table_rows.specs.Rows.{row6, row7, row8, row9, row10, row11, row12, row13, row14, row15, row16, row17, row18};
 
