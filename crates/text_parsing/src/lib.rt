@@ -3,7 +3,8 @@
 // A number is decimal digits, at least one, and fits 64 bits. A list is numbers up to 65,535 parted by commas; `-` is the empty list.
 // Whatever else is read is no number and no list, and is said to be bad.
 #![tactic(auto)]
-ghost use Rattle.std.specs.Prelude.{◌≤◌, length};
+
+ghost use Rattle.std.specs.Prelude.{◌≡◌, ◌≢◌, ℕ, ◌<◌, ◌≤◌, length, slice_index};
 
 #[derive(Drop)]
 pub struct Parsed {
@@ -17,8 +18,24 @@ pub struct Listed {
     pub length: usize,
 }
 
+// The place of the first such byte from start on and before end, or end where there is none.
+pub fn find(text: &[u8], start: usize, end: usize, byte: u8) -> usize
+    requires { (start ≤ end) × (end ≤ length text.now) }
+    ensures begins { start ≤ result }
+    ensures ends { result ≤ end }
+    ensures before { (k : ℕ) → start ≤ k → k < result → slice_index text.now k ≢ byte }
+    ensures found { result < end → slice_index text.now result ≡ byte }
+{
+    for i in start..end {
+        if text[i] == byte {
+            return i;
+        }
+    }
+    end
+}
+
 pub fn is(word: &[u8], name: &[u8]) -> bool {
-    check::same(word, name)
+    word == name
 }
 
 // A number with one digit more.
@@ -81,7 +98,7 @@ pub fn list(word: &[u8], out: &mut [u16]) -> Listed
     let mut length: usize = 0;
     let mut start: usize = 0;
     loop {
-        let end = bytes::scan::find(word, start, word.len(), b',');
+        let end = find(word, start, word.len(), b',');
         let entry = number(&word[start..end]);
         if !entry.good {
             return bad;
