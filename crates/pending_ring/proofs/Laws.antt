@@ -1,6 +1,6 @@
 -- Laws of the pending ring. Stores outside a linked list leave it linked (`linked-kept`); what the stores of push, pop and unhook
 -- do follows by going through the list. A walk down the links meets the stack's labels one by one (`walk-label`).
-use mathlib.Core.Path.{◌≡◌, refl, sym, ap, ◌∙◌}
+use mathlib.Core.Path.{◌≡◌, refl, sym, ap, ◌∙◌, subst}
 use mathlib.Core.Logic.{◌⊎◌, inl, inr, ⊎_elim}
 use mathlib.Core.List.{List, [], ◌∷◌}
 use Prim.Native.Nat.{ℕ, zero, suc, ◌+◌, ◌≤◌, ◌<◌}
@@ -40,7 +40,7 @@ linked-first nx pv a (x ∷ s) b ((p, q), r) = inl (inl p)
 
 linked-next : (nx pv : List ℕ) (a : ℕ) (s : List ℕ) (b l : ℕ) → Linked nx pv a s b → Has l s → Has (get_or nx l 0) s ⊎ (get_or nx l 0 ≡ b)
 linked-next nx pv a [] b l k i = absurd i
-linked-next nx pv a (x ∷ s) b l (k, r) (inl e) = rw e (⊎_elim (λ i. inl (inr i)) (λ p. inr p) (linked-first nx pv x s b r))
+linked-next nx pv a (x ∷ s) b l (k, r) (inl e) = subst (λ (m : ℕ). Has (get_or nx m 0) (x ∷ s) ⊎ (get_or nx m 0 ≡ b)) (sym e) (⊎_elim (λ i. inl (inr i)) (λ p. inr p) (linked-first nx pv x s b r))
 linked-next nx pv a (x ∷ s) b l (k, r) (inr i) = ⊎_elim (λ j. inl (inr j)) (λ p. inr p) (linked-next nx pv x s b l r i)
 
 -- the link before it leads into the list or to its start
@@ -53,7 +53,7 @@ module _ (nx pv : List ℕ) (n : ℕ) (nl : length nx ≡ n) (pl : length pv ≡
   linked-push : (a : ℕ) (s : List ℕ) (b l : ℕ) → a < n → b < n → l < n → ¬ (l ≡ a) → ¬ (l ≡ b) → ¬ Has l s → ¬ Has a s → ¬ Has b s → All (λ x. x < n) s → Distinct s
       → Linked nx pv a s b → Linked (set (set nx l (get_or nx a 0)) a l) (set (set pv l a) (get_or nx a 0) l) a (l ∷ s) b
   linked-push a [] b l an bn ln la lb ls ha hb u d (p, q) =
-      rw p (
+      subst (λ (t : ℕ). Linked (set (set nx l t) a l) (set (set pv l a) t l) a (l ∷ []) b) (sym p) (
         (
           get_or-set_same (set nx l b) a l 0 (lt-length-set nx l b (omega arith)),
           get_or-set_other (set pv l a) b l l 0 lb ∙ get_or-set_same pv l a 0 (omega arith),
@@ -64,7 +64,7 @@ module _ (nx pv : List ℕ) (n : ℕ) (nl : length nx ≡ n) (pl : length pv ≡
         ),
       )
   linked-push a (x ∷ s) b l an bn ln la lb ls ha hb u d ((p, q), r) =
-      rw p (
+      subst (λ (t : ℕ). Linked (set (set nx l t) a l) (set (set pv l a) t l) a (l ∷ x ∷ s) b) (sym p) (
         (
           get_or-set_same (set nx l x) a l 0 (lt-length-set nx l x (omega arith)),
           get_or-set_other (set pv l a) x l l 0 (λ e. ls (inl e)) ∙ get_or-set_same pv l a 0 (omega arith),
@@ -83,7 +83,7 @@ module _ (nx pv : List ℕ) (n : ℕ) (nl : length nx ≡ n) (pl : length pv ≡
       → Linked nx pv x s b → Linked (set nx a (get_or nx x 0)) (set pv (get_or nx x 0) a) a s b
   linked-pop a x [] b an bn ha hb u d (p, q) = rw p (get_or-set_same nx a b 0 (omega arith), get_or-set_same pv b a 0 (omega arith))
   linked-pop a x (y ∷ s) b an bn ha hb u d ((p, q), r) =
-      rw p (
+      subst (λ (t : ℕ). Linked (set nx a t) (set pv t a) a (y ∷ s) b) (sym p) (
         (get_or-set_same nx a y 0 (omega arith), get_or-set_same pv y a 0 (omega (arith, u.0))),
         linked-kept nx pv y s b a y y a (λ i. ha (inr i)) d.0 (λ e. hb (inr (inl (sym e)))) r,
       )
@@ -93,7 +93,7 @@ module _ (nx pv : List ℕ) (n : ℕ) (nl : length nx ≡ n) (pl : length pv ≡
       → Linked nx pv a s b
       → Linked (set nx (get_or pv (get_or s d 0) 0) (get_or nx (get_or s d 0) 0)) (set pv (get_or nx (get_or s d 0) 0) (get_or pv (get_or s d 0) 0)) a (remove_at d s) b
   linked-remove_at a [] b d h an bn hb u o k = absurd (not-suc-le-zero h)
-  linked-remove_at a (x ∷ s) b zero h an bn hb u o ((p, q), r) = rw q (linked-pop a x s b an bn o.0 hb u.1 o.1.1 r)
+  linked-remove_at a (x ∷ s) b zero h an bn hb u o ((p, q), r) = subst (λ (m : ℕ). Linked (set nx m (get_or nx x 0)) (set pv (get_or nx x 0) m) a s b) (sym q) (linked-pop a x s b an bn o.0 hb u.1 o.1.1 r)
   linked-remove_at a (x ∷ s) b (suc d) h an bn hb u o ((p, q), r) = (
     (
       get_or-set_other nx (get_or pv (get_or s d 0) 0) a (get_or nx (get_or s d 0) 0) 0 above ∙ p,
@@ -106,10 +106,10 @@ module _ (nx pv : List ℕ) (n : ℕ) (nl : length nx ≡ n) (pl : length pv ≡
       i = has_get_d s d (le_of_suc-le-suc h)
 
       above : ¬ (a ≡ get_or pv (get_or s d 0) 0)
-      above e = o.0 (rw e (linked-prev nx pv x s b (get_or s d 0) r i))
+      above e = o.0 (subst (λ (m : ℕ). Has m (x ∷ s)) (sym e) (linked-prev nx pv x s b (get_or s d 0) r i))
 
       below : ¬ (x ≡ get_or nx (get_or s d 0) 0)
-      below e = ⊎_elim (λ m. o.1.0 (rw e m)) (λ z. hb (inl (sym z ∙ sym e))) (linked-next nx pv x s b (get_or s d 0) r i)
+      below e = ⊎_elim (λ m. o.1.0 (subst (λ (v : ℕ). Has v s) (sym e) m)) (λ z. hb (inl (sym z ∙ sym e))) (linked-next nx pv x s b (get_or s d 0) r i)
 
 -- ---- the ring
 

@@ -2,6 +2,7 @@
 // Each contract is said of every stack that the arrays hold; arrays that are all zero hold the empty stack.
 // A walk starts at the sentinel and carries its place as an index: compiled, a link then costs one load and no conversion.
 #![tactic(auto)]
+
 ghost use Rattle.std.specs.Prelude.{◌≡◌, List, [], ◌∷◌, ℕ, ◌<◌, length, get_or, drop};
 ghost use Rattle.lists.specs.Lists.{Has, find, remove_at};
 ghost use Rattle.pending_ring.specs.Ring.{Ring};
