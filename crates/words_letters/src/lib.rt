@@ -1,5 +1,6 @@
 // The event letters of a word's items after the first, as ASCII bytes: whether they fit, and written at a place.
 #![tactic(auto)]
+
 ghost use Rattle.std.specs.Prelude.{◌≡◌, ◌∷◌, [], ◌+◌, ◌≤◌, ◌<◌, leb, length};
 ghost use Rattle.words_decimals.specs.Decimals.{BytesWritten};
 ghost use Rattle.words_letters.specs.EventLetters.{event_letters, events_letters};
