@@ -1,5 +1,6 @@
 // The search of check: the edges that are reached from edge 1, by the black and the white list; and a quick test that often spares it.
 #![tactic(auto)]
+
 ghost use Rattle.std.specs.Prelude.{◌≡◌, ◌↔◌, true, ◌≤◌, length, take};
 ghost use Rattle.lists.specs.Lists.{at};
 ghost use Rattle.lists.specs.Ranges.{OneTo};

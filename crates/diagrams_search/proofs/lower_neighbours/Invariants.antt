@@ -1,0 +1,14 @@
+-- `lower_neighbours` meets its contract: the loop has passed only edges that have a lower neighbour, and edge 1, of which none is asked.
+use borrow.Author.Rules.{rules}
+use borrow.Author.Tests.{not-true, not-false}
+use Prim.Native.Nat.{◌+◌, ◌-◌, ◌<◌}
+use native.Mathlib.Omega.{arith}
+use Rattle.diagrams_entries.proofs.Answers.{answer-yes, answer-no, yes-holds, no-fails, Passed, passed_none, passed-more, passed-all}
+use Rattle.diagrams_search.specs.Lower.{LowerNeighbour}
+use Rattle.diagrams_search.proofs.lower_neighbours.Given as goal
+
+abbrev pub invariant-loop-x : goal.invariant-loop-x
+invariant-loop-x l = (1 < l.x) × Passed (λ y. 1 < y → LowerNeighbour l.s0 l.s1 y) l.n l.x
+
+abbrev pub decreases-loop-x : goal.decreases-loop-x
+decreases-loop-x l = l.n + 1 - l.x
