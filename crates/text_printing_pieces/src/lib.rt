@@ -1,6 +1,7 @@
 // A byte, a text or a number, written as bytes into a lent buffer at a place; the place after it is handed back. A piece that does not
 // fit is left out whole, and the place stays (specs/Pieces.antt).
 #![tactic(auto)]
+
 ghost use Rattle.std.specs.Prelude.{◌≡◌, ◌∷◌, []};
 ghost use Rattle.words_decimals.specs.Decimals.{decimal};
 ghost use Rattle.text_printing_pieces.specs.Pieces.{output, put};
