@@ -1,5 +1,6 @@
 // The high rows of the table of the numbers of branches, 6 to 18, a function for each row: its height, and in it the labels free.
 #![tactic(auto)]
+
 ghost use Rattle.std.specs.Prelude.{◌≡◌, get_or};
 ghost use Rattle.upto_table_rows.specs.Rows.{row6, row7, row8, row9, row10, row11, row12, row13, row14, row15, row16, row17, row18};
 
