@@ -1,5 +1,6 @@
 // A list of numbers, written as bytes into a lent buffer at a place: the entries in decimal with commas between them, `-` for the empty list.
 #![tactic(auto)]
+
 ghost use Rattle.std.specs.Prelude.{◌≡◌, ◌∷◌, []};
 ghost use Rattle.text_printing_pieces.specs.Pieces.{output, put_all};
 ghost use Rattle.text_printing_lists.specs.Lists.{entry_pieces, list_pieces};
