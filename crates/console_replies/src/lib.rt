@@ -1,6 +1,7 @@
 // What a command answers, as numbers: which text of its row, and what the fields of that text stand for (crate console_answers). A refusal is 0
 // where there is none.
 #![tactic(auto)]
+
 pub mod blocks;
 
 // The choices of the texts that every command can answer, in the first row of the table.
