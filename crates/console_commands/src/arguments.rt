@@ -2,8 +2,7 @@
 ghost use Rattle.std.specs.Prelude.{◌≤◌, ◌<◌, length};
 
 use crate::rows::part;
-use bytes::scan::find;
-use text_parsing::{Parsed, list, number};
+use text_parsing::{Parsed, find, list, number};
 
 // The most entries of a list.
 pub const MAX_ENTRIES: usize = 2048;

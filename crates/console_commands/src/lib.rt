@@ -5,5 +5,6 @@
 // a list, `N` for a number, and a digit for a room, the length of the output list of that number. Rooms stand last, and all of them may be left
 // out. Rows are parted by `;`. The first row is no command's: it has the texts that every command can answer.
 #![tactic(auto)]
+
 pub mod arguments;
 pub mod rows;

@@ -1,7 +1,6 @@
 // The rows of a table of commands, and their parts.
-use bytes::scan::find;
 use console_replies::REFUSED;
-use text_parsing::is;
+use text_parsing::{find, is};
 
 // Part k of a row, the first being 0; the last one where there are fewer.
 pub fn part<'a>(row: &'a [u8], k: usize) -> &'a [u8] {
