@@ -4,6 +4,7 @@
 // length and any root, and its time is linear in the size: each edge is looked at a fixed number of times. Whoever labels the diagram
 // anyway needs no search for the eighth, that it is connected, and tests the first seven by check_maps.
 #![tactic(auto)]
+
 ghost use Rattle.std.specs.Prelude.{◌≡◌, ◌↔◌, true, [], ◌∷◌};
 ghost use Rattle.diagrams.specs.Check.{Connected, Mapped, Accepts, CheckPromise, MapsPromise};
 ghost use Rattle.diagrams.specs.Held.{Held, CheckedDiagramPromise};
