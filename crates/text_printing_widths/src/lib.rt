@@ -1,6 +1,7 @@
 // Lists of bytes and of 64-bit numbers, printed as crate text_printing_lists prints a list of 16-bit ones: the entries in decimal, parted by commas, and
 // `-` for the empty list.
 #![tactic(auto)]
+
 ghost use Rattle.std.specs.Prelude.{◌≡◌};
 ghost use Rattle.text_printing_pieces.specs.Pieces.{output, put_all};
 ghost use Rattle.text_printing_lists.specs.Lists.{list_pieces};
