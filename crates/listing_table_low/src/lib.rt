@@ -1,5 +1,6 @@
 // The low rows of the table, 0 to 5, which nearly every look-up is for: all in one `match`, so that a look-up is a load with no branch on the height.
 #![tactic(auto)]
+
 ghost use Rattle.std.specs.Prelude.{◌≡◌, get_or};
 ghost use Rattle.listing_table_rows.specs.Rows.{low_rows};
 
