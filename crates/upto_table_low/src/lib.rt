@@ -1,6 +1,7 @@
 // The low rows of the table of the numbers of branches, 0 to 5, which nearly every look-up is for: all in one `match`, so that a look-up is a load with
 // no branch on the height.
 #![tactic(auto)]
+
 ghost use Rattle.std.specs.Prelude.{◌≡◌, get_or};
 ghost use Rattle.upto_table_rows.specs.Rows.{low_rows};
 
