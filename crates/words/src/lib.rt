@@ -1,5 +1,6 @@
 // Words: what a word spells (specs/Word), its event letters, and its dictionary order.
 #![tactic(auto)]
+
 ghost use Rattle.std.specs.Prelude.{◌≡◌, ◌∷◌, [], ◌<◌};
 ghost use Rattle.words.specs.Letters.{first_letter, LettersPromise};
 
