@@ -1,5 +1,6 @@
 // The least common multiple of two numbers, found with Euclid's remainders.
 #![tactic(auto)]
+
 ghost use Rattle.std.specs.Prelude.{◌≤◌};
 ghost use Rattle.invariants_multiples.specs.Multiples.{GreatestCommonDivisor, HeldMultiple};
 
