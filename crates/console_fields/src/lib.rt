@@ -1,6 +1,7 @@
 // The commands that print the run and the share book, as they lie with the program console, and that write numbers of them, so that a run and a
 // book that no operation leaves can be tried too.
 #![tactic(auto)]
+
 mod books;
 mod runs;
 

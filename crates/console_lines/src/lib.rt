@@ -1,13 +1,15 @@
 // The lines of standard input, one after another, in a buffer of more than LONGEST bytes. A line that is longer than LONGEST is given as an empty
 // one, and what follows of it is passed over. Module output writes the answers out.
 #![tactic(auto)]
+
 pub mod output;
 
-ghost use Rattle.std.specs.Prelude.{◌≤◌, ◌<◌, length};
+ghost use Rattle.std.specs.Prelude.{◌≤◌, ◌<◌, length, IfOk};
 ghost use Rattle.console_lines.specs.Lines.{Within};
 
-use bytes::scan::find;
-use libc::STDIN_FILENO;
+use std::io;
+use std::io::Read;
+use text_parsing::find;
 
 // The longest line that is read, without its newline.
 pub const LONGEST: usize = 65536;
@@ -46,13 +48,12 @@ pub fn no_lines() -> Lines
 }
 
 // Reads once, after the bytes that are there, and returns how many there are then.
-fn read_after(input: &mut [u8], have: usize) -> usize
+fn read_after<R: Read>(stdin: &mut R, input: &mut [u8], have: usize) -> io::Result<usize>
     requires { have ≤ length input.old }
-    ensures { (have ≤ result) × (result ≤ length input.old) }
+    ensures { IfOk result (λ n. (have ≤ n) × (n ≤ length input.old)) }
 {
-    let rest = &mut input[have..];
-    let got = libc::read(STDIN_FILENO, rest);
-    have + io::count(got, rest)
+    let got = stdin.read(&mut input[have..])?;
+    Ok(have + got)
 }
 
 // Moves the bytes from `from` up to `have` to the front, and returns how many they are.
@@ -116,19 +117,19 @@ fn pass_over(input: &[u8], have: usize) -> Lines
 }
 
 // Reads once, where no line is complete.
-fn read_more(input: &mut [u8], lines: Lines) -> Lines
+fn read_more<R: Read>(stdin: &mut R, input: &mut [u8], lines: Lines) -> io::Result<Lines>
     requires { Within lines (length input.old) }
-    ensures { Within result (length input.old) }
+    ensures { IfOk result (λ l. Within l (length input.old)) }
 {
     let rest = move_to_front(input, lines.next, lines.have);
-    let have = read_after(input, rest);
+    let have = read_after(stdin, input, rest)?;
     if have == rest {
-        return last_line(rest);
+        return Ok(last_line(rest));
     }
     if lines.passes {
-        return pass_over(input, have);
+        return Ok(pass_over(input, have));
     }
-    unfound(0, rest, have, false)
+    Ok(unfound(0, rest, have, false))
 }
 
 // The place where the line from start to end is taken to begin, its end where it is too long.
@@ -193,16 +194,16 @@ fn find_line(input: &[u8], lines: Lines) -> Lines
 }
 
 // The next line. Where none was complete it reads once, so that what was answered so far is to be written before.
-pub fn next_line(input: &mut [u8], lines: Lines) -> Lines
+pub fn next_line<R: Read>(stdin: &mut R, input: &mut [u8], lines: Lines) -> io::Result<Lines>
     requires { Within lines (length input.old) }
-    ensures { Within result (length input.old) }
+    ensures { IfOk result (λ l. Within l (length input.old)) }
 {
     if !lines.waits {
-        return find_line(input, lines);
+        return Ok(find_line(input, lines));
     }
-    let more = read_more(input, lines);
+    let more = read_more(stdin, input, lines)?;
     if more.ended {
-        return more;
+        return Ok(more);
     }
-    find_line(input, more)
+    Ok(find_line(input, more))
 }
