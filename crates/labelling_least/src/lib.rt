@@ -1,5 +1,6 @@
 // The smaller of two lists as `lesser` hands it back. The part handed back tells which of the two it is, and no item is compared again.
 #![tactic(auto)]
+
 ghost use Rattle.std.specs.Prelude.{◌≡◌, ◌≢◌, length};
 ghost use Rattle.words.specs.Order.{precedes};
 
