@@ -1,5 +1,7 @@
 // The census program: what standard input asks for goes to standard output (crate census_text).
 #![tactic(auto)]
-fn main() {
-    census_text::run();
+use std::io;
+
+fn main(rt: HostRuntime) -> io::Result<()> {
+    census_text::run(&mut rt.stdin(), &mut rt.stdout())
 }

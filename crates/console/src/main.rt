@@ -53,6 +53,8 @@ ghost use Rattle.console_answers.specs.Answers.{AnswerLinePut};
 use commands::on_line;
 use console_lines::output::written;
 use console_lines::{next_line, no_lines};
+use std::io;
+use std::io::{Read, Write};
 use text_printing::put_byte;
 
 // More than the longest line, so that a line that is still incomplete leaves room to read on.
@@ -82,19 +84,21 @@ fn answer(
 
 // Reads and answers to the end of the input. A proved loop has to end, and nothing says that the input does: so the turns are counted
 // down, from a number that no session uses up.
-fn session(
+fn session<R: Read, W: Write>(
+    stdin: &mut R,
+    stdout: &mut W,
     input: &mut [u8],
     run: &mut [u16; 54],
     upto: &mut [u16; 54],
     visits: &mut u64,
     book: &mut [u64; 100],
     out: &mut [u8],
-) {
+) -> io::Result<()> {
     let mut lines = no_lines();
     let mut place: usize = 0;
     let mut turns = u64::MAX;
     while 0 < turns {
-        lines = next_line(input, lines);
+        lines = next_line(stdin, input, lines)?;
         let start = lines.start;
         let end = lines.end;
         let waits = lines.waits;
@@ -109,22 +113,25 @@ fn session(
             out,
             place,
         );
-        place = written(out, next, waits || ended);
+        place = written(stdout, out, next, waits || ended)?;
         if ended {
-            return;
+            return Ok(());
         }
         turns -= 1;
     }
+    Ok(())
 }
 
 // The runs are of no size and no bound at first, so that a step refuses them, and the book is all zeros.
-fn main() {
+fn main(rt: HostRuntime) -> io::Result<()> {
     session(
+        &mut rt.stdin(),
+        &mut rt.stdout(),
         &mut [0u8; INPUT],
         &mut [0u16; 54],
         &mut [0u16; 54],
         &mut 0u64,
         &mut [0u64; 100],
         &mut [0u8; OUTPUT],
-    );
+    )
 }

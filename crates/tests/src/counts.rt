@@ -3,8 +3,9 @@
 ghost use Rattle.std.specs.Prelude.{◌≤◌};
 
 use labelling_operations::KeepMark;
-use libc::STDOUT_FILENO;
 use run_steps::{Run, Stepping};
+use std::io;
+use std::io::Write;
 
 // The sizes are 1 to this one.
 const LAST: u64 = 22;
@@ -48,16 +49,13 @@ fn counted(run: Run, s0: &mut [u16], s1: &mut [u16], word: &mut [u16]) -> Counts
     Counts { rooted, kept }
 }
 
-fn print_line(size: u64, counts: Counts) {
-    io::print_decimal(STDOUT_FILENO, size);
-    io::write_all(STDOUT_FILENO, b" ");
-    io::print_decimal(STDOUT_FILENO, counts.rooted);
-    io::write_all(STDOUT_FILENO, b" ");
-    io::print_decimal(STDOUT_FILENO, counts.kept);
-    io::write_all(STDOUT_FILENO, b"\n");
+fn print_line<W: Write>(stdout: &mut W, size: u64, counts: Counts) -> io::Result<()> {
+    let rooted = counts.rooted;
+    let kept = counts.kept;
+    writeln!(stdout, "{size} {rooted} {kept}")
 }
 
-fn print_size(size: u64)
+fn print_size<W: Write>(stdout: &mut W, size: u64) -> io::Result<()>
     requires { size ≤ 22 }
 {
     let mut s0 = [0u16; 22];
@@ -66,14 +64,16 @@ fn print_size(size: u64)
     let n = size as usize;
     let begun = run_steps::begin(size);
     let run = begun.run;
-    print_line(size, counted(run, &mut s0[0..n], &mut s1[0..n], &mut word));
+    let counts = counted(run, &mut s0[0..n], &mut s1[0..n], &mut word);
+    print_line(stdout, size, counts)
 }
 
 // All sizes up to LAST.
-pub fn print_counts() {
+pub fn print_counts<W: Write>(stdout: &mut W) -> io::Result<()> {
     let mut size: u64 = 1;
     while size <= LAST {
-        print_size(size);
+        print_size(stdout, size)?;
         size += 1;
     }
+    Ok(())
 }

@@ -1,33 +1,32 @@
 // The share book in its lent form (crate book_by_value lends it to crate book_lent): a session that sleeps too long, and the one after it. A line
 // for each call, with its arguments; size 4 in 3 shares, of which share 1 holds positions 1 and 2 (document 01, table (k)).
 use book::{Book, Claiming, Committing, Opening, Releasing, Reporting, Taking};
-use libc::STDOUT_FILENO;
+use std::io;
+use std::io::Write;
 
-fn write(text: &[u8]) {
-    io::write_all(STDOUT_FILENO, text);
+fn write<W: Write>(stdout: &mut W, text: &[u8]) -> io::Result<()> {
+    stdout.write_all(text)
 }
 
-fn write_number(x: u64) {
-    io::write_all(STDOUT_FILENO, b" ");
-    io::print_decimal(STDOUT_FILENO, x);
+fn write_number<W: Write>(stdout: &mut W, x: u64) -> io::Result<()> {
+    write!(stdout, " {x}")
 }
 
 // The end of a call's line: `ok`, or the refusal where it is not 0.
-fn write_done(refusal: u16) {
+fn write_done<W: Write>(stdout: &mut W, refusal: u16) -> io::Result<()> {
     if refusal == 0 {
-        write(b": ok\n");
-        return;
+        return write(stdout, b": ok\n");
     }
-    write(b": refused");
-    write_number(refusal as u64);
-    write(b"\n");
+    write(stdout, b": refused")?;
+    write_number(stdout, refusal as u64)?;
+    write(stdout, b"\n")
 }
 
 // A call's name and its first two arguments.
-fn write_call(name: &[u8], a: u64, b: u64) {
-    write(name);
-    write_number(a);
-    write_number(b);
+fn write_call<W: Write>(stdout: &mut W, name: &[u8], a: u64, b: u64) -> io::Result<()> {
+    write(stdout, name)?;
+    write_number(stdout, a)?;
+    write_number(stdout, b)
 }
 
 // A 16-bit number as a 64-bit one.
@@ -49,38 +48,38 @@ fn blank() -> Book {
     }
 }
 
-fn open(b: Book, size: u64, k: u64) -> Book {
-    write_call(b"open", size, k);
+fn open<W: Write>(stdout: &mut W, b: Book, size: u64, k: u64) -> io::Result<Book> {
+    write_call(stdout, b"open", size, k)?;
     let done = book_by_value::open(b, size, k);
     let answer = done.answer;
     match answer {
-        Opening::Opened => write_done(0),
-        Opening::Refused(k) => write_done(k),
+        Opening::Opened => write_done(stdout, 0)?,
+        Opening::Refused(k) => write_done(stdout, k)?,
     }
-    done.book
+    Ok(done.book)
 }
 
-fn claim(b: Book, tick: u64, share: u64, length: u64) -> Book {
-    write_call(b"claim", tick, share);
-    write_number(length);
+fn claim<W: Write>(stdout: &mut W, b: Book, tick: u64, share: u64, length: u64) -> io::Result<Book> {
+    write_call(stdout, b"claim", tick, share)?;
+    write_number(stdout, length)?;
     let done = book_by_value::claim(b, tick, share, length);
     let answer = done.answer;
     match answer {
         Claiming::Ticket(t) => {
-            write(b": ticket");
-            write_number(t);
-            write(b"\n");
+            write(stdout, b": ticket")?;
+            write_number(stdout, t)?;
+            write(stdout, b"\n")?;
         }
-        Claiming::Refused(k) => write_done(k),
+        Claiming::Refused(k) => write_done(stdout, k)?,
     }
-    done.book
+    Ok(done.book)
 }
 
-fn take(b: Book, tick: u64, ticket: u64) -> Book {
+fn take<W: Write>(stdout: &mut W, b: Book, tick: u64, ticket: u64) -> io::Result<Book> {
     let mut s0 = [0u16; 4];
     let mut s1 = [0u16; 4];
     let mut word = [0u16; 5];
-    write_call(b"take", tick, ticket);
+    write_call(stdout, b"take", tick, ticket)?;
     let done = book_by_value::take(b, tick, ticket, &mut s0, &mut s1, &mut word);
     let answer = done.answer;
     match answer {
@@ -89,89 +88,91 @@ fn take(b: Book, tick: u64, ticket: u64) -> Book {
             position,
             length,
         } => {
-            write_call(b": share and position", share, position);
-            write_call(b", items and the third", length, long(word[2]));
-            write(b"\n");
+            write_call(stdout, b": share and position", share, position)?;
+            write_call(stdout, b", items and the third", length, long(word[2]))?;
+            write(stdout, b"\n")?;
         }
-        Taking::Refused(k) => write_done(k),
+        Taking::Refused(k) => write_done(stdout, k)?,
     }
-    done.book
+    Ok(done.book)
 }
 
-fn commit(b: Book, tick: u64, ticket: u64, position: u64) -> Book {
-    write_call(b"commit", tick, ticket);
-    write_number(position);
+fn commit<W: Write>(stdout: &mut W, b: Book, tick: u64, ticket: u64, position: u64) -> io::Result<Book> {
+    write_call(stdout, b"commit", tick, ticket)?;
+    write_number(stdout, position)?;
     let done = book_by_value::commit(b, tick, ticket, position);
     let answer = done.answer;
     match answer {
-        Committing::Committed => write_done(0),
-        Committing::Refused(k) => write_done(k),
+        Committing::Committed => write_done(stdout, 0)?,
+        Committing::Refused(k) => write_done(stdout, k)?,
     }
-    done.book
+    Ok(done.book)
 }
 
-fn release(b: Book, tick: u64, ticket: u64) -> Book {
-    write_call(b"release", tick, ticket);
+fn release<W: Write>(stdout: &mut W, b: Book, tick: u64, ticket: u64) -> io::Result<Book> {
+    write_call(stdout, b"release", tick, ticket)?;
     let done = book_by_value::release(b, tick, ticket);
     let answer = done.answer;
     match answer {
-        Releasing::Released => write_done(0),
-        Releasing::Refused(k) => write_done(k),
+        Releasing::Released => write_done(stdout, 0)?,
+        Releasing::Refused(k) => write_done(stdout, k)?,
     }
-    done.book
+    Ok(done.book)
 }
 
-fn report(b: Book) {
-    write(b"report");
+fn report<W: Write>(stdout: &mut W, b: Book) -> io::Result<()> {
+    write(stdout, b"report")?;
     let answer = book_by_value::report(b);
     match answer {
         Reporting::Progress {
             committed,
             complete,
         } => {
-            write_number(committed);
+            write_number(stdout, committed)?;
             if complete {
-                write(b" complete\n");
+                write(stdout, b" complete\n")
             } else {
-                write(b" open\n");
+                write(stdout, b" open\n")
             }
         }
-        Reporting::Refused(k) => write_done(k),
+        Reporting::Refused(k) => write_done(stdout, k),
     }
 }
 
 // The first session: its ticket is good at tick 14 and has lapsed at 15.
-fn first_session(b: Book) -> Book {
-    let claimed = claim(b, 10, 1, 5);
-    let taken = take(claimed, 11, 1);
-    let committed = commit(taken, 14, 1, 1);
-    let late = commit(committed, 15, 1, 2);
-    report(late);
-    late
+fn first_session<W: Write>(stdout: &mut W, b: Book) -> io::Result<Book> {
+    let claimed = claim(stdout, b, 10, 1, 5)?;
+    let taken = take(stdout, claimed, 11, 1)?;
+    let committed = commit(stdout, taken, 14, 1, 1)?;
+    let late = commit(stdout, committed, 15, 1, 2)?;
+    report(stdout, late)?;
+    Ok(late)
 }
 
 // The second, on the same share. The first wakes late and releases its old ticket, which has no power; the share is finished by the second.
-fn second_session(b: Book) -> Book {
-    let claimed = claim(b, 15, 1, 10);
-    let released = release(claimed, 16, 1);
-    let taken = take(released, 16, 2);
-    let finished = commit(taken, 16, 2, 2);
-    report(finished);
-    finished
+fn second_session<W: Write>(stdout: &mut W, b: Book) -> io::Result<Book> {
+    let claimed = claim(stdout, b, 15, 1, 10)?;
+    let released = release(stdout, claimed, 16, 1)?;
+    let taken = take(stdout, released, 16, 2)?;
+    let finished = commit(stdout, taken, 16, 2, 2)?;
+    report(stdout, finished)?;
+    Ok(finished)
 }
 
 // A ticket ends with its share; a finished share is not claimed; ticks do not go back; a release frees a share.
-fn last_calls(b: Book) {
-    let ended = commit(b, 17, 2, 3);
-    let again = claim(ended, 17, 1, 5);
-    let back = claim(again, 15, 2, 5);
-    let other = claim(back, 17, 2, 5);
-    let free = release(other, 18, 3);
-    report(claim(free, 18, 2, 5));
+fn last_calls<W: Write>(stdout: &mut W, b: Book) -> io::Result<()> {
+    let ended = commit(stdout, b, 17, 2, 3)?;
+    let again = claim(stdout, ended, 17, 1, 5)?;
+    let back = claim(stdout, again, 15, 2, 5)?;
+    let other = claim(stdout, back, 17, 2, 5)?;
+    let free = release(stdout, other, 18, 3)?;
+    let last = claim(stdout, free, 18, 2, 5)?;
+    report(stdout, last)
 }
 
-pub fn run_sessions() {
-    let opened = open(blank(), 4, 3);
-    let after = first_session(opened);
-    last_calls(second_session(after));
+pub fn run_sessions<W: Write>(stdout: &mut W) -> io::Result<()> {
+    let opened = open(stdout, blank(), 4, 3)?;
+    let after = first_session(stdout, opened)?;
+    let finished = second_session(stdout, after)?;
+    last_calls(stdout, finished)
 }

@@ -6,30 +6,34 @@
 mod counts;
 mod lent_book;
 
-use libc::{STDIN_FILENO, STDOUT_FILENO};
+use std::io;
+use std::io::Write;
+use text_parsing::find;
 
-fn case(input: &[u8]) {
-    io::write_all(STDOUT_FILENO, input);
-    io::write_all(STDOUT_FILENO, b";\n");
-    census_text::census(input);
+fn case<W: Write>(stdout: &mut W, input: &[u8]) -> io::Result<()> {
+    stdout.write_all(input)?;
+    stdout.write_all(b";\n")?;
+    census_text::census(stdout, input)
 }
 
-fn run(inputs: &[u8]) {
+fn run<W: Write>(stdout: &mut W, inputs: &[u8]) -> io::Result<()> {
     let mut start: usize = 0;
     while start < inputs.len() {
-        let end = bytes::scan::find(inputs, start, inputs.len(), b';');
-        case(&inputs[start..end]);
+        let end = find(inputs, start, inputs.len(), b';');
+        case(stdout, &inputs[start..end])?;
         if end == inputs.len() {
-            return;
+            return Ok(());
         }
         start = end + 1;
     }
+    Ok(())
 }
 
-fn main() {
+fn main(rt: HostRuntime) -> io::Result<()> {
     let mut inputs = [0u8; 1024];
-    let n = io::read_full(STDIN_FILENO, &mut inputs);
-    run(&inputs[..n]);
-    counts::print_counts();
-    lent_book::run_sessions();
+    let mut stdout = rt.stdout();
+    let n = census_text::read_full(&mut rt.stdin(), &mut inputs)?;
+    run(&mut stdout, &inputs[..n])?;
+    counts::print_counts(&mut stdout)?;
+    lent_book::run_sessions(&mut stdout)
 }
