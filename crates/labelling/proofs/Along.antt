@@ -1,5 +1,5 @@
 -- What holds along the labelling: marked and pending edges, and that the events come to an end.
-use mathlib.Core.Path.{◌≡◌, refl, sym, ap, ◌∙◌}
+use mathlib.Core.Path.{◌≡◌, refl, sym, ap, ◌∙◌, subst}
 use mathlib.Core.Logic.{◌≢◌, ◌⊎◌, inl, inr, ⊎_elim}
 use mathlib.Core.List.{List, [], ◌∷◌}
 use Prim.Native.Nat.{ℕ, zero, suc, ◌+◌, ◌≤◌}
@@ -93,7 +93,7 @@ module _ (n : ℕ) (f g : ℕ → ℕ) (D : Maps n f g) where
         go x h m (inr a) = let s = k-settled x h a m in (inr s.0, λ j. s.1 (inr j))
 
         se : (x : ℕ) → Has x (g k ∷ o) → ¬ Has x r → Has (g x) (g k ∷ o) × (¬ Has (g x) r)
-        se x (inl q) m = rw (q, back) (inr k-o, k-r)
+        se x (inl q) m = subst (λ (y : ℕ). Has (g y) (g k ∷ o) × (¬ Has (g y) r)) (sym q) (subst (λ (y : ℕ). Has y (g k ∷ o) × (¬ Has y r)) (sym back) (inr k-o, k-r))
         se x (inr h) m = go x h m (same? x k)
 
     inv-F : g k ≢ k → ¬ Has (g k) o → f (g k) ≢ g k → LabellingInvariant n f g (f (f (g k)) ∷ f (g k) ∷ g k ∷ o) (f (f (g k)) ∷ f (g k) ∷ r)
@@ -151,13 +151,13 @@ module _ (n : ℕ) (f g : ℕ → ℕ) (D : Maps n f g) where
         old y h m (inr (inr i)) = m i
 
         go : (x : ℕ) → Has x o → ¬ Has x r → (x ≡ k) ⊎ (x ≢ k) → Has (g x) (f (f p) ∷ f p ∷ p ∷ o) × (¬ Has (g x) (f (f p) ∷ f p ∷ r))
-        go x h m (inl q) = rw q (inr (inr (inl refl)), ⊎_elim (λ i. s-p (sym i)) (⊎_elim (λ i. e (sym i)) (λ j. u (I.pending (g k) (inr j)))))
+        go x h m (inl q) = subst (λ (y : ℕ). Has (g y) (f (f p) ∷ f p ∷ p ∷ o) × (¬ Has (g y) (f (f p) ∷ f p ∷ r))) (sym q) (inr (inr (inl refl)), ⊎_elim (λ i. s-p (sym i)) (⊎_elim (λ i. e (sym i)) (λ j. u (I.pending (g k) (inr j)))))
         go x h m (inr a) = let t = k-settled x h a m in (inr (inr (inr t.0)), old (g x) t.0 (λ j. t.1 (inr j)))
 
         se : (x : ℕ) → Has x (f (f p) ∷ f p ∷ p ∷ o) → ¬ Has x (f (f p) ∷ f p ∷ r) → Has (g x) (f (f p) ∷ f p ∷ p ∷ o) × (¬ Has (g x) (f (f p) ∷ f p ∷ r))
         se x (inl q) m = absurd (m (inl q))
         se x (inr (inl q)) m = absurd (m (inr (inl q)))
-        se x (inr (inr (inl q))) m = rw (q, back) (inr (inr (inr k-o)), old k k-o k-r)
+        se x (inr (inr (inl q))) m = subst (λ (y : ℕ). Has (g y) (f (f p) ∷ f p ∷ p ∷ o) × (¬ Has (g y) (f (f p) ∷ f p ∷ r))) (sym q) (subst (λ (y : ℕ). Has y (f (f p) ∷ f p ∷ p ∷ o) × (¬ Has y (f (f p) ∷ f p ∷ r))) (sym back) (inr (inr (inr k-o)), old k k-o k-r))
         se x (inr (inr (inr h))) m = go x h (λ i. m (inr (inr i))) (same? x k)
 
     pub next : LabellingInvariant n f g (event f g o k r).marked (event f g o k r).stack

@@ -1,5 +1,5 @@
 -- The labels in the end: each edge has one of 1..n, and the relabelled diagram is a diagram isomorphic to the given one.
-use mathlib.Core.Path.{◌≡◌, refl, sym, ap, ◌∙◌}
+use mathlib.Core.Path.{◌≡◌, refl, sym, ap, ◌∙◌, subst}
 use mathlib.Core.Logic.{◌≢◌, ◌⊎◌, inl, inr, ⊎_elim}
 use mathlib.Core.Bool.{Bool, true, false}
 use mathlib.Core.List.{List, [], ◌∷◌, ◌++◌, map, append_assoc}
@@ -71,7 +71,9 @@ edge_in (y ∷ o) j h = go (same? j (suc (length o))) (edge_in o j)
   where
     go : (j ≡ suc (length o)) ⊎ (j ≢ suc (length o)) → (OneTo (length o) j → Has (edge_of o j) o) → Has (edge_of (y ∷ o) j) (y ∷ o)
     go (inl e) k = rw (e, eqb_same (suc (length o))) (inl refl)
-    go (inr n) k = rw (eqb-ne j (suc (length o)) n) (inr (k (omega arith)))
+    go (inr n) k =
+        let e : edge_of (y ∷ o) j ≡ edge_of o j = rw (eqb-ne j (suc (length o)) n) in
+        subst (λ (x : ℕ). Has x (y ∷ o)) (sym e) (inr (k (omega arith)))
 
 edge-lab : (o : List ℕ) (x : ℕ) → Has x o → edge_of o (label_of o x) ≡ x
 edge-lab [] x h = absurd h

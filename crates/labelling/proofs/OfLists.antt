@@ -61,7 +61,7 @@ module _ (s0 s1 : List ℕ) (root : ℕ) (A : Accepts s0 s1 root) where
   accepted = (accepts-rooted t0 t1 1).1 (
     rw length-listed A.size,
     record {
-      lengths = length-listed _ n ∙ sym (length-listed _ n);
+      lengths = length-listed (relabel M (at s1)) n ∙ sym (length-listed (relabel M (at s0)) n);
       root_in = rw length-listed (edge-one diagram.maps);
       diagram = rw length-listed (diagram-same (relabelled n (at s0) (at s1) diagram root A.root_in M marked) entry-0 entry-1);
     },
@@ -85,7 +85,7 @@ module _ (s0 s1 : List ℕ) (root : ℕ) (A : Accepts s0 s1 root) where
 
   pub characteristic-size : length (characteristic s0 s1 root).black ≡ n
   unfolding characteristic
-  characteristic-size = length-listed _ n
+  characteristic-size = length-listed (relabel (labels s0 s1 root) (at s0)) n
 
   pub characteristic-isomorphic : RootedIsomorphic s0 s1 root (characteristic s0 s1 root).black (characteristic s0 s1 root).white 1
   characteristic-isomorphic = record { sizes = sym characteristic-size; by = label_of (labels s0 s1 root); is = labels_carry; roots = root-label }
