@@ -1,6 +1,7 @@
 // Texts, numbers, lists and words, written as bytes into a lent buffer at a place; the place after them is handed back. A piece that does
 // not fit is left out whole, and the place stays (specs/Printing.antt). Numbers with a sign and words stand here.
 #![tactic(auto)]
+
 ghost use Rattle.std.specs.Prelude.{◌≡◌, nat_abs};
 ghost use Rattle.text_printing.specs.Printing.{output, put_all, signed_pieces, word_pieces};
 
