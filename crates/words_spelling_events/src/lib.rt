@@ -1,6 +1,7 @@
 // The first item of a word of a listed size (1 to 50) and the events after it, one at a time: each takes the lent lists and the stack of pending
 // labels from before the item to after it.
 #![tactic(auto)]
+
 ghost use Rattle.std.specs.Prelude.{◌≡◌, List, ◌∷◌, ℕ, length};
 ghost use Rattle.std.proofs.Math.Option.{some};
 ghost use Rattle.words.specs.Word.{Pair, spell};
