@@ -1,6 +1,7 @@
 // What the invariants of a diagram count: the edges that a list fixes, and the cycles of i to s0(s1(i)), with the least common multiple of their
 // lengths. The lists are known to be maps of the edges.
 #![tactic(auto)]
+
 ghost use Rattle.std.specs.Prelude.{◌≡◌, ◌≤◌, length};
 ghost use Rattle.lists.specs.Lists.{at};
 ghost use Rattle.lists.specs.Ranges.{OneTo};
