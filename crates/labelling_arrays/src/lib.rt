@@ -2,6 +2,7 @@
 // label) and the pending ring, which holds edges. The first two are as long as the caller's diagrams need: clearing arrays for the
 // largest size would take longer than the labelling of a small diagram.
 #![tactic(auto)]
+
 ghost use Rattle.std.specs.Prelude.{◌≡◌, List, ◌∷◌, ℕ, suc, ◌+◌, ◌<◌, ◌≤◌, length};
 ghost use Rattle.lists.specs.Lists.{at, Has, find, remove_at};
 ghost use Rattle.lists.specs.Ranges.{OneTo};
