@@ -1,9 +1,5 @@
 -- A diagram while it is being spelled: what holds of the stack and the lists so far, and what the finished diagram keeps of them.
-<<<<<<< HEAD
 use mathlib.Core.Path.{◌≡◌, refl, sym, subst, ◌∙◌}
-=======
-use mathlib.Core.Path.{◌≡◌, refl, sym, ◌∙◌, subst}
->>>>>>> be6e153 (Lemma files prove)
 use mathlib.Core.Logic.{◌≢◌, inl, inr}
 use mathlib.Core.Bool.{Bool, true, false, cond}
 use mathlib.Core.Option.{Option, none, some}
@@ -210,11 +206,7 @@ module _ (k : ℕ) (r s0 s1 : List ℕ) (S : State (k ∷ r) s0 s1) where
       longer = K.longer;
       same_lengths = K.same_lengths;
       blacks = K.blacks;
-<<<<<<< HEAD
       whites = λ x e n. K.whites x e (λ h. n (inr (remove_at-has d r x h))) ∙ J-other x (λ q. n (inl q)) (λ q. n (inr (subst (λ (y : ℕ). Has y r) (sym q) p-has)));
-=======
-      whites = λ x e n. K.whites x e (λ h. n (inr (remove_at-has d r x h))) ∙ J-other x (λ q. n (inl q)) (λ q. n (inr (subst (λ (z : ℕ). Has z r) (sym q) p-has)));
->>>>>>> be6e153 (Lemma files prove)
     }
 
 pub none≢some : (D : Pair) → none ≡ some D → ⊥
