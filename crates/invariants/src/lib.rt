@@ -1,6 +1,7 @@
 // The invariants of a diagram: the edges fixed by s1 and by s0, the cycles of i to s0(s1(i)), t, and the level, which is the least common
 // multiple of the cycles' lengths. invariants takes any lists and refuses what check refuses, then a level of 2^64 or more.
 #![tactic(auto)]
+
 ghost use Rattle.std.specs.Prelude.{◌≡◌, ◌+◌, ◌*◌, ◌≤◌};
 ghost use Rattle.std.proofs.Math.IntN.{sub_ℕ};
 ghost use Rattle.diagrams.specs.Check.{Mapped};
