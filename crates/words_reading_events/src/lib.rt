@@ -1,6 +1,7 @@
 // The events of reading a word (document 01, "Read word"): what an item makes of the label that was popped. The labels given so far stand
 // in two arrays, the pending ones in a ring; an event that is refused changes neither.
 #![tactic(auto)]
+
 ghost use Rattle.std.specs.Prelude.{◌≡◌, List, ◌∷◌, ℕ, suc, ◌+◌, ◌≤◌, ◌<◌, length};
 ghost use Rattle.lists.specs.Lists.{Has};
 ghost use Rattle.lists.specs.Ranges.{OneTo};
