@@ -2,6 +2,7 @@
 // The items are read one by one into two local arrays; the lent lists are written only when the whole word is known to be good
 // and both lists to have room.
 #![tactic(auto)]
+
 ghost use Rattle.std.specs.Prelude.{◌≡◌, List, [], ◌∷◌, ℕ, ◌<◌, length};
 ghost use Rattle.pending_ring.specs.Ring.{Ring};
 ghost use Rattle.words_reading.specs.Read.{read_first, with_room, reading_answer, ReadPromise};
