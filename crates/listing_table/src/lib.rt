@@ -1,5 +1,6 @@
 // How many ways there are to go on from a stack of height h with f labels free, as far as sizes up to 50 need it.
 #![tactic(auto)]
+
 ghost use Rattle.std.specs.Prelude.{◌≡◌};
 ghost use Rattle.listing_table.specs.Ways.{entry, WaysPromise};
 
