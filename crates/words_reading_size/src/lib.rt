@@ -1,6 +1,7 @@
 // The size of the diagram that a word spells, or the refusal of read word, without the diagram: the labels given and the labels pending are
 // counted along the word and neither kept nor joined.
 #![tactic(auto)]
+
 ghost use Rattle.std.specs.Prelude.{◌≡◌, cond, List, [], ◌∷◌, ℕ, ◌+◌, ◌-◌, ◌≤◌, ◌<◌, leb, ltb, length};
 ghost use Rattle.words_reading.specs.Read.{read_first, read};
 ghost use Rattle.words_reading_events.specs.State.{State, read_on};
