@@ -3,7 +3,7 @@
 # or the table for README: ./bench.sh --markdown. Fails where a bar is missed, but with --quick. ./bench.sh --help says what the table has.
 set -eu
 cd "$(dirname "$0")"
-rt staticlib kaldvemir >&2
+./build.sh kaldvemir
 {
     grep -m 1 'model name' /proc/cpuinfo | sed 's/.*: //'
     date -u '+%Y-%m-%d %H:%M UTC'

@@ -3,7 +3,7 @@
 # Without a size: how many diagrams the sizes 1 to 9 have, and how many of them are kept.
 set -eu
 cd "$(dirname "$0")"
-rt check census >&2
+./build.sh census
 if [ $# -eq 0 ]; then
     target/bin/census < /dev/null
 else

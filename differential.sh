@@ -3,6 +3,6 @@
 # The library is proved and built first. Fails at the first difference, and where some refusal was never met.
 set -eu
 cd "$(dirname "$0")"
-rt staticlib kaldvemir >&2
+./build.sh kaldvemir
 cd rust
 exec env -u KALDVEMIR_LIB_DIR cargo run --release --offline --quiet -p differential -- "$@"

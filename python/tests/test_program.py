@@ -23,7 +23,7 @@ CENSUS = PACKAGE.parent / "target" / "bin" / "census"
 def census_text(size: int) -> str:
     """What the census program prints for a size."""
     if not CENSUS.exists():
-        pytest.fail("the census program is not built: rt check census")
+        pytest.fail("the census program is not built: ./build.sh census")
     return subprocess.run([str(CENSUS)], input=f"{size}\n", capture_output=True, text=True, check=True).stdout
 
 

@@ -9,7 +9,7 @@ usage() {
 usage: before_after.sh OLD NEW SIZE ..
 
 Runs two census programs by turns, five times each, on every size given, and prints the median of each one's processor time (user and system, in
-seconds) and the ratio of the new to the old. What they print is not kept. Build a program with `rt check census`; it is target/bin/census.
+seconds) and the ratio of the new to the old. What they print is not kept. Build a program with `./build.sh census`; it is target/bin/census.
 
   rust/bench/before_after.sh before/census after/census 24 25
 TEXT

@@ -1,4 +1,4 @@
-//! Links libkaldvemir.a, the archive that `rt staticlib kaldvemir` makes.
+//! Links libkaldvemir.a, the archive that `./build.sh kaldvemir` makes.
 use std::path::{Path, PathBuf};
 use std::{env, process};
 
@@ -13,7 +13,7 @@ fn main() {
     println!("cargo:rerun-if-changed={}", archive.display());
     if !archive.is_file() {
         eprintln!("{} is not there.", archive.display());
-        eprintln!("Make it with `rt staticlib kaldvemir` at the top of the repository, or name its folder in KALDVEMIR_LIB_DIR.");
+        eprintln!("Make it with `./build.sh kaldvemir` at the top of the repository, or name its folder in KALDVEMIR_LIB_DIR.");
         process::exit(1);
     }
     println!("cargo:rustc-link-search=native={}", folder.display());
