@@ -1,5 +1,6 @@
 // States of a word that is read: how many labels are pending and how many are still free. No diagram is made.
 #![tactic(auto)]
+
 ghost use Rattle.std.specs.Prelude.{◌≡◌, ◌+◌, ◌≤◌};
 ghost use Rattle.listing_successor_states.specs.States.{stack_state, dead_end, state_after_item, state_after_first};
 
