@@ -1,5 +1,6 @@
 // The diagram of a word of a listed size (1 to 50), written straight into the lent lists, event by event.
 #![tactic(auto)]
+
 ghost use Rattle.std.specs.Prelude.{◌≡◌, List, ℕ, ◌≤◌, length};
 ghost use Rattle.std.proofs.Math.Option.{some};
 ghost use Rattle.words.specs.Word.{Pair, spell, Spells};
