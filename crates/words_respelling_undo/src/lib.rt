@@ -1,5 +1,6 @@
 // An event of a word taken back, from its item and the label it popped: the scratch lists hold the diagram as it stood before the item again.
 #![tactic(auto)]
+
 ghost use Rattle.std.specs.Prelude.{◌≡◌, List, ℕ, ◌+◌, ◌≤◌, ◌<◌, length, get_or, take};
 ghost use Rattle.lists.specs.Lists.{at, put};
 ghost use Rattle.lists.specs.Ranges.{OneTo};
