@@ -2,6 +2,7 @@
 // of each label) and the pending ring, which holds edges. Nothing of the size limit is cleared or copied for one labelling. The lists need
 // only be maps: what is not reached from the root gets no label.
 #![tactic(auto)]
+
 ghost use Rattle.std.specs.Prelude.{List, [], ◌∷◌, ℕ, ◌<◌, length};
 ghost use Rattle.lists.specs.Lists.{at};
 ghost use Rattle.diagrams.specs.Check.{RootedMaps};
