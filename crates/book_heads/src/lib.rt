@@ -1,5 +1,6 @@
 // Tests of a book's numbers apart from its lists: whether they are those of a valid book, and whether a tick may come next.
 #![tactic(auto)]
+
 ghost use Rattle.std.specs.Prelude.{◌≡◌, ◌^◌, leb, ltb};
 ghost use Rattle.book.specs.Valid.{both};
 ghost use Rattle.book_heads.specs.Heads.{heads_valid};
