@@ -1,6 +1,7 @@
 // Whether the entries of one share, and those after the shares', are those of a valid book. The functions are lent the book's lists, as
 // slices, so that they may lie anywhere.
 #![tactic(auto)]
+
 ghost use Rattle.std.specs.Prelude.{◌≡◌, ℕ, suc, ◌+◌, ◌<◌, ◌≤◌, ◌^◌};
 ghost use Rattle.book.specs.Shares.{last};
 ghost use Rattle.book_entries.specs.Entries.{book_of, Full, own_valid, unused_after};
