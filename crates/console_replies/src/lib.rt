@@ -11,7 +11,7 @@ pub const ERROR: usize = 101;
 
 // Field A is the first of the numbers, B the second, and so on. Field + is the signed number. Fields 0 to 4 are the first entries of the
 // output lists, as many as lengths says; field 9 is the first of the numbers, as many as the second of lengths says.
-#[derive(Drop)]
+#[derive(Clone, Copy)]
 pub struct Reply {
     pub choice: usize,
     pub numbers: [u64; 100],
