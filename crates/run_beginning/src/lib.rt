@@ -1,5 +1,6 @@
 // The beginning of a run. It refuses 31, a size outside 1..50.
 #![tactic(auto)]
+
 ghost use Rattle.std.specs.Prelude.{◌≡◌, true, false, replicate};
 ghost use Rattle.lists.specs.Ranges.{OneTo};
 ghost use Rattle.run_answers.specs.Promises.{BeginPromise};
