@@ -1,0 +1,17 @@
+-- `write_word` meets its contract. The loop's invariant: what is written so far begins the word, and the labelling is under way behind it.
+-- The measure is the room that is left for items.
+use borrow.Author.Rules.{rules}
+use mathlib.Core.Path.{◌≡◌, ◌∙◌}
+use mathlib.Core.List.{List}
+use Prim.Native.Nat.{ℕ, suc, ◌-◌, ◌≤◌}
+use native.Mathlib.Omega.{arith}
+use lib.ListN.{length, length-set}
+use Rattle.labelling_code.proofs.Sofar.{Filled, filled-begin, filled-length, filled-event, filled-room, filled_more, filled-end, filled-none-pending, wrote-first}
+use Rattle.labelling_code.proofs.writing.write_word.Given as goal
+
+abbrev pub invariant-loop-next : goal.invariant-loop-next
+invariant-loop-next l =
+    (w : List ℕ) × Filled l.s0 l.s1 l.root l.labels l.order l.next l.prev l.given l.height w l.initial.word l.word l.len × (length l.labels ≡ length l.initial.labels) × (length l.order ≡ length l.initial.order)
+
+abbrev pub decreases-loop-next : goal.decreases-loop-next
+decreases-loop-next l = suc (length l.s0) - l.len
