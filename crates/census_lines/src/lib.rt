@@ -1,6 +1,7 @@
 // The line of a diagram in a census, as document 01 shows it ("Small sizes, by hand"), written into a lent buffer as crate text_printing writes: the place after
 // it is handed back, and a piece that does not fit is left out (specs/Lines.antt).
 #![tactic(auto)]
+
 ghost use Rattle.std.specs.Prelude.{◌≡◌, ◌∷◌, []};
 ghost use Rattle.words.specs.Letters.{decimal};
 ghost use Rattle.text_printing.specs.Printing.{output, put, put_all, list_pieces};
