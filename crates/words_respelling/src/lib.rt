@@ -1,6 +1,7 @@
 // A diagram spelled event by event into scratch lists, which keep it as it stands after each item: the label that an item's event pops is noted at the
 // item's place, so that the event can be taken back.
 #![tactic(auto)]
+
 ghost use Rattle.std.specs.Prelude.{List, ℕ, ◌+◌, ◌≤◌, length, take};
 ghost use Rattle.words_respelling.specs.SpelledSoFar.{ListedWord, ScratchLengths, SpelledSoFar, EventDue};
 
