@@ -1,5 +1,6 @@
 // The least event that leads on from a state to the end of a word, and whether one does.
 #![tactic(auto)]
+
 ghost use Rattle.std.specs.Prelude.{◌≡◌, ◌+◌, ◌≤◌};
 ghost use Rattle.listing_successor_events.specs.Events.{can_end, can_end_after, join_above, allowed_above, least_above, least_event};
 
