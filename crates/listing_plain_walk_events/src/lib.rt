@@ -1,5 +1,6 @@
 // The events of the plain walk: what each leaves pending, and how many labels free.
 #![tactic(auto)]
+
 ghost use Rattle.std.specs.Prelude.{◌+◌, ◌<◌};
 ghost use Rattle.listing_plain_walk_events.specs.Events.{LeadsTo};
 
