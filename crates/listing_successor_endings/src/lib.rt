@@ -1,5 +1,6 @@
 // A word ended in the least way, after a beginning that it shares with another.
 #![tactic(auto)]
+
 ghost use Rattle.std.specs.Prelude.{◌≡◌, true, List, ◌∷◌, ◌++◌, ℕ, ◌+◌, ◌≤◌, length, take};
 ghost use Rattle.listing_successor_states.specs.States.{state_after_first};
 ghost use Rattle.listing_successor_events.specs.Events.{can_end};
