@@ -141,7 +141,7 @@ pub fn on_line(
         count|nN|A;\
         invariants|iLLN|A B C + D;\
         kept|kLLN|no|yes;\
-        kept_counted|eN|A;\
+        kept-count|eN|A;\
         lesser|lLL|A 0;\
         letters|tL4|5;\
         list|LN0123|A 0 1 2 3;\
@@ -170,7 +170,7 @@ pub fn on_line(
         symmetries|sLLN|A;\
         take|TNN012|share A position B 0 1 2;\
         upto|UN|ok;\
-        upto_visits|VN|ok;\
+        upto-visits|VN|ok;\
         walk|wN0|A 0",
         line,
         run,

@@ -17,7 +17,7 @@
 //   lesser A B                                     1 A or 2 B, the list that is handed back
 //   letters WORD [ROOM]                            the word's letters, `-` for none
 //   count N                                        the number of diagrams of that size
-//   kept_counted N                                   how many of these are kept; its time grows with their number
+//   kept-count N                                   how many of these are kept; its time grows with their number
 //   summary                                        SIZE COUNT KEPT of the sizes 1 to 9, with a comma and a space between any two sizes
 //   at N P [R0 R1 RW]                              S0 S1 WORD
 //   position S0 S1 ROOT                            its number
@@ -33,7 +33,7 @@
 //   set run SIZE STAGE LENGTH ITEMS                ok; writes the run, with zeros after at most 51 items; each field is 16 bits wide
 //   upto N                                         ok; begins a run through the sizes 1 to N, kept beside the plain one
 //   next [R0 R1 RW]                                SIZE VISITS S0 S1 WORD, its next diagram, or end; refused 34 before any accepted upto
-//   upto_visits V                                  ok; writes the visit number of that run
+//   upto-visits V                                  ok; writes the visit number of that run
 //   open N K                                       ok
 //   claim TICK SHARE LENGTH                        ticket T
 //   take TICK TICKET [R0 R1 RW]                    share J position P S0 S1 WORD
