@@ -1,5 +1,6 @@
 // The count of a listed size, from the table of the ways to go on.
 #![tactic(auto)]
+
 ghost use Rattle.std.specs.Prelude.{◌≡◌};
 ghost use Rattle.lists.specs.Ranges.{OneTo};
 ghost use Rattle.listing.specs.Listing.{count};

@@ -1,0 +1,25 @@
+-- `rank` adds up the blocks before each item. The loop's invariant, `Ranked`: what is added so far and the rank of the items left are the rank.
+use Prim.Native.Nat.{◌+◌, ◌-◌, ◌≤◌}
+use native.Mathlib.Omega.{arith}
+use lib.ListN.{length, drop, drop_of_length-le}
+use Rattle.words_spelling_events.proofs.Lists.{next-item}
+use Rattle.listing_places_ways.proofs.Passing.{rank-small, Ranked, ranked-more, ranked-end}
+use Rattle.listing_places_ways.proofs.ranking.rank.Goals as goal
+
+pub pass-block-requires-clause-by_index : goal.pass-block-requires-clause-by_index
+pass-block-requires-clause-by_index c =
+    let R = rw (next-item c.args.items.now c.loop-i.i (omega arith)) at c.loop-i.invariant.1 in
+    (drop (c.loop-i.i + 1) c.args.items.now, R.fits)
+
+pub overflow_add-place : goal.overflow_add-place
+overflow_add-place c =
+    let R = rw (next-item c.args.items.now c.loop-i.i (omega arith)) at c.loop-i.invariant.1 in
+    omega (arith, (ranked-more _ _ _ _ _ _ _ _ _ R (c.pass-block.ensures _ R.fits)).sum, rank-small c.args.height c.args.free c.args.items.now c.requires.1 c.requires.0)
+
+pub loop-i-preserved : goal.loop-i-preserved
+loop-i-preserved c =
+    let R = rw (next-item c.args.items.now c.loop-i.i (omega arith)) at c.loop-i.invariant.1 in
+    (omega arith, ranked-more _ _ _ _ _ _ _ _ _ R (c.pass-block.ensures _ R.fits))
+
+pub returns : goal.returns
+returns c = ranked-end _ _ _ _ (rw (drop_of_length-le c.args.items.now c.loop-i-test.false) at c.loop-i.invariant.1)
