@@ -1,0 +1,14 @@
+-- `items_of` copies the items out one by one.
+use mathlib.Core.Path.{◌≡◌, refl, sym, ◌∙◌, ap}
+use mathlib.Core.List.{◌++◌, append-nil}
+use Prim.Native.Nat.{ℕ, ◌+◌, ◌-◌, ◌≤◌}
+use native.Mathlib.Omega.{arith}
+use lib.ListN.{take, drop, length, replicate}
+use borrow.Author.Rules.{rules}
+use Rattle.kaldvemir_layout.proofs.Rows.{copied-out}
+use Rattle.kaldvemir_layout_run.proofs.items_of.Goals as goal
+
+pub loop-i-preserved : goal.loop-i-preserved
+loop-i-preserved c =
+    let x = c.before in
+    (search rules, rw c.loop-i.invariant.1 (copied-out x.args.numbers.now (replicate 51 0) 3 c.loop-i.i (omega arith) (omega (arith, x.requires))))

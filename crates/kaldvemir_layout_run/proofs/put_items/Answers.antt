@@ -1,0 +1,14 @@
+-- `put_items` copies the items in one by one.
+use mathlib.Core.Path.{◌≡◌, refl, sym, ◌∙◌, ap}
+use Prim.Native.Nat.{ℕ, ◌+◌, ◌-◌, ◌≤◌}
+use native.Mathlib.Omega.{arith}
+use lib.ListN.{length}
+use lib.Seq.{paste, paste-zero}
+use borrow.Author.Rules.{rules}
+use Rattle.kaldvemir_layout.proofs.Rows.{copied-in}
+use Rattle.kaldvemir_layout_run.proofs.put_items.Goals as goal
+
+pub loop-i-preserved : goal.loop-i-preserved
+loop-i-preserved c =
+    let x = c.before in
+    (search rules, rw c.loop-i.invariant.1 (copied-in x.args.numbers.now x.args.items.now 3 c.loop-i.i (omega (arith, x.requires.0)) (omega (arith, x.requires.1))))
