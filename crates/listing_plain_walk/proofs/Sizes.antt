@@ -83,7 +83,7 @@ module _ (n : ℕ) (e : OneTo 9 n) (out : List ℕ) (long : 1024 ≤ length out)
   module _ (w out' word' : List ℕ) (j : ℕ) (A : WalkAdded out 0 (0 ∷ w) 1 1 (n - 1) out' word' j) where
     -- the words of size 1 and of size 2 all begin with U
     pub wrote_U : n < 3 → PlainWalkPromise n out out' (Numbers j)
-    wrote_U l = rw (small-parts n e.0 l) (e, long, A.up_to_lem ∙ zero-add _, A.written ∙ from-0 _ out)
+    wrote_U l = rw (small-parts n e.0 l) (e, long, A.up_to ∙ zero-add _, A.written ∙ from-0 _ out)
 
     module _ (l : 3 ≤ n) (out_long : length out' ≡ length out) (word_long : length word' ≡ 16) where
       both : length (concatenated (listing n)) ≡ length (U-words n) + length (T-words n)
@@ -95,10 +95,10 @@ module _ (n : ℕ) (e : OneTo 9 n) (out : List ℕ) (long : 1024 ≤ length out)
       pub second-room : WalkRoom out' j (set word' 0 1) 1 3 (n - 3)
       second-room =
           let a = length-set word' 0 1 in
-          record { places = omega arith; short = omega arith; room = rw first-T (omega (arith, both, listing-few n e, A.up_to_lem)) }
+          record { places = omega arith; short = omega arith; room = rw first-T (omega (arith, both, listing-few n e, A.up_to)) }
 
       pub wrote-both : (out'' word'' : List ℕ) (k : ℕ) → WalkAdded out' j (set word' 0 1) 1 3 (n - 3) out'' word'' k → PlainWalkPromise n out out'' (Numbers k)
       wrote-both out'' word'' k B =
-          let u = rw first-T at B.up_to_lem in
+          let u = rw first-T at B.up_to in
           let v = rw first-T at B.written in
-          (e, long, omega (arith, both, A.up_to_lem), v ∙ rw (A.written, A.up_to_lem, large-parts n l) (from-from 0 (U-words n) out (omega (arith, few-U)) (T-words n) ∙ from-0 (U-words n ++ T-words n) out))
+          (e, long, omega (arith, both, A.up_to), v ∙ rw (A.written, A.up_to, large-parts n l) (from-from 0 (U-words n) out (omega (arith, few-U)) (T-words n) ∙ from-0 (U-words n ++ T-words n) out))

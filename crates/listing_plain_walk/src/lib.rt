@@ -1,5 +1,6 @@
 // The plain walk: all words of a small size, one after another, by backtracking enumeration.
 #![tactic(auto)]
+
 ghost use Rattle.std.specs.Prelude.{◌≡◌, suc, ◌+◌, ◌≤◌, length, take};
 ghost use Rattle.lists.specs.Overwriting.{overwrite_from};
 ghost use Rattle.listing_plain_walk.specs.Promises.{PlainWalkPromise};
