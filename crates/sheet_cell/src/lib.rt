@@ -1,6 +1,7 @@
 // The answer to a cell of a sheet. Its word is counted along but spelled into no list, and nothing is labelled again: a word that can be read is
 // the word of the diagram that it spells, so that its position is that diagram's.
 #![tactic(auto)]
+
 ghost use Rattle.std.specs.Prelude.{◌≡◌, length};
 ghost use Rattle.words_reading.specs.Read.{read};
 ghost use Rattle.sheet.specs.Cells.{blank, refused_with, located, cell};
