@@ -1,5 +1,6 @@
 // The positions of the words of a sheet, in one call (request U2).
 #![tactic(auto)]
+
 ghost use Rattle.std.specs.Prelude.{◌≡◌, length};
 ghost use Rattle.lists.specs.Overwriting.{overwrite};
 ghost use Rattle.sheet.specs.Cells as cells;
