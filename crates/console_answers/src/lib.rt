@@ -2,6 +2,7 @@
 // list, 4 for the output list of bytes as numbers and 5 for it as letters, 6 to 8 for a long list, 9 for the first of the numbers, A to Z for a
 // number and + for the signed number (specs/Answers.antt). Of an output list the first entries are printed, as many as the reply says.
 #![tactic(auto)]
+
 ghost use Rattle.std.specs.Prelude.{◌≡◌, ◌∷◌, [], ◌≤◌, ◌<◌, get_or, take};
 ghost use Rattle.text_printing.specs.Printing.{output, put_all, list_pieces};
 ghost use Rattle.console_answers.specs.Answers.{is_within, bytes_pieces, letters_pieces, long_list, number_pieces, field_pieces, answer_pieces, lists};

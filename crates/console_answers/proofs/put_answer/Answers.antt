@@ -1,0 +1,15 @@
+-- Byte by byte: what is left to print is what the bytes to come stand for.
+use mathlib.Core.Path.{◌≡◌, refl, sym, ap, ◌∙◌}
+use Prim.Native.Nat.{◌-◌}
+use lib.ListN.{length, drop}
+use Rattle.text_printing.specs.Printing.{output, put_all}
+use Rattle.console_answers.specs.Answers.{lists, answer_pieces}
+use Rattle.console_answers.proofs.Answers.{answer-more, answer-past}
+use borrow.Author.Rules.{rules}
+use Rattle.console_answers.proofs.put_answer.Goals as goal
+
+pub loop-i-preserved : goal.loop-i-preserved
+loop-i-preserved c = (search rules, ap (put_all _) c.put_field-next.ensures ∙ answer-more _ _ _ _ _ c.loop-i-test.true ∙ c.loop-i.invariant.1)
+
+pub returns : goal.returns
+returns c = sym (answer-past _ _ _ _ _ c.loop-i-test.false) ∙ c.loop-i.invariant.1
