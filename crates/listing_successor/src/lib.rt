@@ -1,6 +1,7 @@
 // The word that follows a word in dictionary order among the words of its size, and whether a list is a word of a size at all. Both
 // go by the stack's height and the labels left, so that no diagram is made and no table is needed.
 #![tactic(auto)]
+
 ghost use Rattle.std.specs.Prelude.{◌≡◌, ◌⊎◌, true, false, [], ℕ, ◌+◌, ◌≤◌};
 ghost use Rattle.lists.specs.Ranges.{OneTo};
 ghost use Rattle.words.specs.Shape.{Fits, Word};
