@@ -1,6 +1,4 @@
 -- B: refused 24 where the label is above 1,024; otherwise the stores are those of `alone-stands`.
-use borrow.Author.Rules.{rules}
-use native.Mathlib.Omega.{arith}
 use Rattle.words_reading_events.proofs.EventLaws.{alone-refused, alone-stands}
 use Rattle.words_reading_events.proofs.add_alone.Goals as goal
 

@@ -1,5 +1,4 @@
 -- F: refused 24 where the last of the three labels is above 1,024; otherwise the arrays and the ring are those of `triple-stands`.
-use borrow.Author.Rules.{rules}
 use native.Mathlib.Omega.{arith}
 use Rattle.pending_ring.proofs.Laws.{ring-few}
 use Rattle.words_reading_events.proofs.EventLaws.{fresh, triple-refused, triple-stands}

@@ -1,5 +1,4 @@
 -- The first label is pushed where it is not pending yet, and the second is neither that one nor pending.
-use borrow.Author.Rules.{rules}
 use mathlib.Core.Logic.{⊎_elim}
 use native.Mathlib.Omega.{arith}
 use Rattle.words_reading_events.proofs.push_two.Goals as goal
