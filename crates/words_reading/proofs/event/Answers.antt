@@ -1,10 +1,7 @@
 -- One item: 26 where nothing is pending; otherwise the top is popped, and the item's event goes on from there.
 use mathlib.Core.Path.{◌≡◌}
-use Prim.Native.Nat.{ℕ, suc, ◌+◌, ◌-◌}
-use mathlib.Core.List.{List}
+use Prim.Native.Nat.{suc, ◌-◌}
 use native.Mathlib.Omega.{arith}
-use Rattle.pending_ring.specs.Ring.{Ring}
-use Rattle.words_reading_events.specs.State.{State, ReadingHeld}
 use Rattle.words_reading.proofs.ReadingLaws.{popped, popped-holds, item-met, item_refused, alone-closed}
 use Rattle.words_reading.proofs.event.Goals as goal
 

@@ -1,10 +1,8 @@
 -- The loop over the items: after i of them the word's answer is what the rest gives from the state held.
-use mathlib.Core.Path.{◌≡◌, refl, ◌∙◌}
-use Prim.Native.Nat.{◌+◌, ◌-◌, ◌≤◌}
+use mathlib.Core.Path.{◌≡◌}
+use Prim.Native.Nat.{◌-◌, ◌≤◌}
 use lib.ListN.{length, drop}
-use borrow.Author.Rules.{rules}
 use Rattle.words_reading_events.specs.State.{State, read_on, ReadingHeld}
-use Rattle.words_reading.proofs.ReadingLaws.{rest-next, rest_end}
 use Rattle.words_reading.proofs.events.Given as goal
 
 abbrev pub invariant-loop-i : goal.invariant-loop-i

@@ -1,5 +1,4 @@
 -- One item: 26 where nothing is pending; otherwise each item by its law.
-use borrow.Author.Rules.{rules}
 use mathlib.Core.Path.{◌≡◌}
 use Prim.Native.Nat.{suc, ◌-◌}
 use native.Mathlib.Omega.{arith}

@@ -1,12 +1,9 @@
 -- The loop over the items: after i of them the word's answer is what the rest gives from a state with the counts u and h.
-use borrow.Author.Rules.{rules}
-use mathlib.Core.Path.{◌≡◌, refl, ◌∙◌}
-use Prim.Native.Nat.{◌+◌, ◌-◌, ◌≤◌}
+use Prim.Native.Nat.{◌+◌}
 use native.Mathlib.Omega.{arith}
-use lib.ListN.{length, drop}
-use Rattle.words_reading_events.specs.State.{State, read_on}
-use Rattle.words_reading.proofs.ReadingLaws.{rest-next, rest_end}
-use Rattle.words_reading_size.specs.Counting.{Counts}
+use lib.ListN.{drop}
+use Rattle.words_reading_events.specs.State.{read_on}
+use Rattle.words_reading.proofs.ReadingLaws.{rest-next}
 use Rattle.words_reading_size.proofs.count_items.Goals as goal
 
 pub loop-i-preserved : goal.loop-i-preserved

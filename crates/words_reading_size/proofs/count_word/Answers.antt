@@ -1,7 +1,6 @@
 -- The first item gives the counts of `after_u` or `after_t`, from which the rest is counted, or 22.
-use borrow.Author.Rules.{rules}
 use Rattle.words_reading_events.specs.State.{after_u, after_t}
-use Rattle.words_reading.proofs.ReadingLaws.{opening-alone, opening-triple, opening-refused}
+use Rattle.words_reading.proofs.ReadingLaws.{opening-alone, opening-triple}
 use Rattle.words_reading_size.proofs.CountingLaws.{counts-U, counts-T}
 use Rattle.words_reading_size.proofs.count_word.Goals as goal
 
