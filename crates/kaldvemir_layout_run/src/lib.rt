@@ -1,5 +1,6 @@
 // The run as 54 numbers.
 #![tactic(auto)]
+
 ghost use Rattle.std.specs.Prelude.{◌≡◌, ◌∷◌, length, get_or, take, drop};
 ghost use Rattle.std.proofs.Math.Seq.{paste};
 ghost use Rattle.kaldvemir_layout_run.specs.Layout.{run_of};

@@ -10,5 +10,4 @@ use Rattle.kaldvemir_layout_run.proofs.items_of.Goals as goal
 
 pub loop-i-preserved : goal.loop-i-preserved
 loop-i-preserved c =
-    let x = c.before in
-    (search rules, rw c.loop-i.invariant.1 (copied-out x.args.numbers.now (replicate 51 0) 3 c.loop-i.i (omega arith) (omega (arith, x.requires))))
+    (search rules, rw c.loop-i.invariant.1 (copied-out c.args.numbers.now (replicate 51 0) 3 c.loop-i.i (omega arith) (omega (arith, c.requires))))

@@ -5,4 +5,4 @@ use borrow.Author.Rules.{rules}
 use Rattle.kaldvemir_layout_run.proofs.put_back.Goals as goal
 
 pub returns : goal.returns
-returns c = c.put_items.ensures ∙ run_row c.args.numbers.now c.args.t4 c.args.stage c.args.len c.requires (search rules)
+returns c = c.put_items.ensures ∙ run_row c.args.numbers.now c.args.items c.args.stage c.args.len c.requires (search rules)

@@ -10,5 +10,4 @@ use Rattle.kaldvemir_layout_run.proofs.put_items.Goals as goal
 
 pub loop-i-preserved : goal.loop-i-preserved
 loop-i-preserved c =
-    let x = c.before in
-    (search rules, rw c.loop-i.invariant.1 (copied-in x.args.numbers.now x.args.items.now 3 c.loop-i.i (omega (arith, x.requires.0)) (omega (arith, x.requires.1))))
+    (search rules, rw c.loop-i.invariant.1 (copied-in c.args.numbers.now c.args.items.now 3 c.loop-i.i (omega (arith, c.requires.0)) (omega (arith, c.requires.1))))
