@@ -1,6 +1,7 @@
 // The labelling of a diagram, event by event, where of each edge only that it is labelled is kept: its stamp is then the number of the
 // labelling. A next labelling has a greater number, so that nothing is cleared between the two. The pending ring holds edges.
 #![tactic(auto)]
+
 ghost use Rattle.std.specs.Prelude.{◌≡◌, List, [], ◌∷◌, ℕ, ◌<◌, length, set};
 ghost use Rattle.lists.specs.Lists.{at, Has};
 ghost use Rattle.lists.specs.Ranges.{OneTo};
