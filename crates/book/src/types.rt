@@ -2,7 +2,7 @@
 
 // A book is a lease table: it divides the positions of one size among 1 to 32 shares (shards), each of which one session at a time may
 // hold. Entry j - 1 of each list is share j's; unused entries are 0.
-#[derive(Drop)]
+#[derive(Clone, Copy)]
 pub struct Book {
     pub size: u64,
     pub shares: u64,
@@ -20,7 +20,7 @@ pub struct Book {
 }
 
 // The numbers of a book apart from its lists.
-#[derive(Drop)]
+#[derive(Clone, Copy)]
 pub struct Heads {
     pub size: u64,
     pub shares: u64,
