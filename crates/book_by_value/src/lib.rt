@@ -1,6 +1,7 @@
 // The operations of the share book for a program that holds its book by value: the book stands in a local, is lent to the operation (crate
 // book_lent), and comes back with the answer. A function that lends a local struct is proved by hand, so that callers of these need no such proof.
 #![tactic(auto)]
+
 ghost use Rattle.std.specs.Prelude.{◌≡◌};
 ghost use Rattle.book.specs.Calls.{open_answer, open_book, claim_answer, claim_book, commit_answer, commit_book, commit_range_answer, commit_range_book, release_answer, release_book, report_answer};
 ghost use Rattle.book.specs.Taken.{TakePromise};

@@ -1,5 +1,6 @@
 // What a claim is refused for.
 #![tactic(auto)]
+
 ghost use Rattle.std.specs.Prelude.{◌≡◌, true, eqb, leb};
 ghost use Rattle.lists.specs.Ranges.{OneTo};
 ghost use Rattle.book.specs.Valid.{both, valid};

@@ -1,5 +1,6 @@
 // The connectives of the definitions' tests, each a function, so that a test in the code is the definition's own.
 #![tactic(auto)]
+
 ghost use Rattle.std.specs.Prelude.{◌≡◌, true, false, cond};
 ghost use Rattle.book_connectives.specs.Connectives.{both, either, not, among, unless};
 

@@ -1,6 +1,7 @@
 // What each operation answers and what it alters, found from the lent parts of a book: its heads and its three lists. A decision is
 // carried out on a book by value, or on the numbers of a book in their place.
 #![tactic(auto)]
+
 ghost use Rattle.std.specs.Prelude.{◌≡◌};
 ghost use Rattle.book.specs.Calls.{report_answer};
 ghost use Rattle.book_entries.specs.Entries.{book_with, Full};

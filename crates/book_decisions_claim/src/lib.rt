@@ -1,5 +1,6 @@
 // What a claim and a release answer and alter, found from the lent parts of a book: its heads and its three lists.
 #![tactic(auto)]
+
 ghost use Rattle.book_entries.specs.Entries.{book_with, Full};
 ghost use Rattle.book_decisions_claim.specs.Claims.{ClaimOf, ReleaseOf};
 

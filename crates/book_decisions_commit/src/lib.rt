@@ -1,5 +1,6 @@
 // What a commit answers and alters, found from the lent parts of a book: its heads and its three lists.
 #![tactic(auto)]
+
 ghost use Rattle.std.specs.Prelude.{◌≡◌, cond, List, ℕ, length};
 ghost use Rattle.lists.specs.Ranges.{OneTo};
 ghost use Rattle.book.specs.Changes.{changed, Placed};

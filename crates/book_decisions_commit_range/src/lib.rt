@@ -1,6 +1,7 @@
 // What a range of commits answers and alters, found from the lent parts of a book: its heads and its three lists. The two ends of the range tell it,
 // so that the time does not grow with the range.
 #![tactic(auto)]
+
 ghost use Rattle.std.specs.Prelude.{◌≡◌, eqb, leb, length};
 ghost use Rattle.lists.specs.Lists.{at};
 ghost use Rattle.lists.specs.Ranges.{OneTo};

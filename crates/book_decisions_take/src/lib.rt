@@ -1,5 +1,6 @@
 // What a take answers, writes and alters, found from the lent parts of a book: its heads and its three lists.
 #![tactic(auto)]
+
 ghost use Rattle.book.specs.Taken.{TakePromise};
 ghost use Rattle.book.specs.Changes.{changed, Placed};
 ghost use Rattle.book_entries.specs.Entries.{book_with, Full};

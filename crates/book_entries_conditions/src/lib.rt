@@ -1,5 +1,6 @@
 // The conditions of a valid book on a share's next position, its ticket and its expiry.
 #![tactic(auto)]
+
 ghost use Rattle.std.specs.Prelude.{◌≡◌, ◌<◌, ◌^◌};
 ghost use Rattle.book_entries_conditions.specs.Conditions.{placed, timely};
 

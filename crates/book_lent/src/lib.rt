@@ -1,6 +1,7 @@
 // The share book: it divides the positions of one size among shares, which sessions claim, take diagrams of, commit and release.
 // The caller owns the book and lends it to each operation. A refused call leaves it as it was.
 #![tactic(auto)]
+
 ghost use Rattle.std.specs.Prelude.{◌≡◌};
 ghost use Rattle.book.specs.Calls.{open_answer, open_book, claim_answer, claim_book, commit_answer, commit_book, commit_range_answer, commit_range_book, release_answer, release_book, report_answer};
 ghost use Rattle.book.specs.Taken.{TakePromise};

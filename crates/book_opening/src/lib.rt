@@ -1,5 +1,6 @@
 // Opens a share book: the positions of one size are divided among its shares, each at its first position.
 #![tactic(auto)]
+
 ghost use Rattle.std.specs.Prelude.{◌≡◌, cond, ℕ, ◌<◌, ◌^◌, leb};
 ghost use Rattle.lists.specs.Lists.{tabulate};
 ghost use Rattle.lists.specs.Ranges.{OneTo};

@@ -1,6 +1,7 @@
 // The operations of the share book on a book by value: each returns its answer with the book that it leaves. What it answers and alters
 // is decided on the lent parts of the book.
 #![tactic(auto)]
+
 mod books;
 
 ghost use Rattle.std.specs.Prelude.{◌≡◌};

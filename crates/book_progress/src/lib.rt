@@ -1,5 +1,6 @@
 // What the report counts, of a book whose heads are those of a valid one.
 #![tactic(auto)]
+
 ghost use Rattle.std.specs.Prelude.{◌≡◌, List, ℕ, length};
 ghost use Rattle.lists.specs.Ranges.{OneTo};
 ghost use Rattle.book.specs.Shares.{committed, complete};

@@ -1,5 +1,6 @@
 // Where a ticket stands, and what take, commit and release check first.
 #![tactic(auto)]
+
 ghost use Rattle.std.specs.Prelude.{◌≡◌, List, ℕ, ◌≤◌, length};
 ghost use Rattle.book.specs.Shares.{holder};
 ghost use Rattle.book_entries.specs.Entries.{book_with, Full};

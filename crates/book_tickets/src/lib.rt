@@ -1,6 +1,7 @@
 // Whether each ticket stands at one share only. Tickets are told apart by their remainders modulo 128: where no two remainders are equal, no
 // two tickets are. Only where two are equal is each ticket compared with all before it.
 #![tactic(auto)]
+
 ghost use Rattle.std.specs.Prelude.{◌≡◌, true, cond, suc, ◌+◌, ◌%◌, ◌<◌, ◌≤◌, eqb, length};
 ghost use Rattle.lists.specs.Ranges.{every};
 ghost use Rattle.book_tickets.specs.Tickets.{stands_once};

@@ -1,6 +1,7 @@
 // Whether a book is valid: condition 50 applies to it exactly if `valid` says no. The functions are lent the book's lists, as slices, so
 // that they may lie anywhere.
 #![tactic(auto)]
+
 ghost use Rattle.std.specs.Prelude.{◌≡◌, ◌<◌, ◌^◌};
 ghost use Rattle.lists.specs.Ranges.{OneTo, every};
 ghost use Rattle.listing.specs.Listing.{count};

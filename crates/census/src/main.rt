@@ -1,5 +1,6 @@
 // The census program: what standard input asks for goes to standard output (crate census_text).
 #![tactic(auto)]
+
 use std::io;
 
 fn main(rt: HostRuntime) -> io::Result<()> {

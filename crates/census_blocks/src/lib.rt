@@ -1,5 +1,6 @@
 // The rows of a block of a run, as text: its diagrams and their keep marks are found as the listing in blocks finds them, and then written.
 #![tactic(auto)]
+
 ghost use Rattle.std.specs.Prelude.{◌+◌, ◌*◌, ◌≤◌, length};
 ghost use Rattle.listing.specs.Listing.{count};
 ghost use Rattle.run_answers.specs.Promises.{RunAt};

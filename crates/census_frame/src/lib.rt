@@ -1,6 +1,7 @@
 // The header and the last line of a census, and the line of a refusal, as document 01 shows them ("Small sizes, by hand"). Each is written over
 // the beginning of a lent list of bytes, which has room for it.
 #![tactic(auto)]
+
 ghost use Rattle.std.specs.Prelude.{◌≤◌, length};
 ghost use Rattle.words_decimals.specs.Decimals.{BytesWritten};
 ghost use Rattle.census_definition.specs.Census.{header, totals, refusal};

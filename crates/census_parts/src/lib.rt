@@ -1,6 +1,7 @@
 // The text of a census a part at a time, so that the memory needed does not grow with the size: the header, the rows in parts of at most 128, the
 // last line. Put one after another, the parts are the text of the census (specs/Parts.antt).
 #![tactic(auto)]
+
 ghost use Rattle.std.specs.Prelude.{◌≡◌, ◌≢◌, ◌≤◌, ◌<◌, length, take};
 ghost use Rattle.lists.specs.Ranges.{OneTo};
 ghost use Rattle.listing.specs.Listing.{count};

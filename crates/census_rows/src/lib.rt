@@ -1,5 +1,6 @@
 // The lines of a block of diagrams, as the listing in blocks writes them: one for each, with its position, word, lists, invariants and keep mark.
 #![tactic(auto)]
+
 ghost use Rattle.std.specs.Prelude.{◌≡◌, cond, ◌≤◌, eqb};
 ghost use Rattle.invariants.specs.Promises.{InvariantsPromise};
 ghost use Rattle.invariants.specs.declared.Measured.{Measured};

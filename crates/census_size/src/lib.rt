@@ -1,6 +1,7 @@
 // What the input of the census program asks for. Document 01: it "reads a decimal size without leading zeros and a newline, nothing else"; other
 // input, and a size outside 1..50, is refused 31. Empty input, no byte at all, asks for the summary (request U4).
 #![tactic(auto)]
+
 ghost use Rattle.std.specs.Prelude.{[], ◌∷◌};
 ghost use Rattle.census_size.specs.Size.{NamedSizePromise, RequestPromise};
 

@@ -1,6 +1,7 @@
 // The summary that the census program prints on empty input: a line for each of the sizes 1 to 9, with how many diagrams it has and how many of
 // them are kept. The numbers are counted at the time of the call.
 #![tactic(auto)]
+
 ghost use Rattle.std.specs.Prelude.{◌≡◌, ◌≤◌, length};
 ghost use Rattle.lists.specs.Ranges.{OneTo};
 ghost use Rattle.words_decimals.specs.Decimals.{BytesWritten};

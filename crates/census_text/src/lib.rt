@@ -3,6 +3,7 @@
 // census_summary), and other input that names no size of 1..50 `refused 31` (crate census_size). What is not proved here: that the input is read,
 // and that the bytes handed to standard output arrive.
 #![tactic(auto)]
+
 ghost use Rattle.std.specs.Prelude.{◌≤◌, length, IfOk};
 ghost use Rattle.lists.specs.Ranges.{OneTo};
 

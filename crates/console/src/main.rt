@@ -45,6 +45,7 @@
 //   set size V, shares V, latest V, issued V       ok; writes a field of the book
 //   set next J V, ticket J V, expiry J V           ok; writes share J's, 1 to 32
 #![tactic(auto)]
+
 mod commands;
 
 ghost use Rattle.text_printing.specs.Printing.{output};

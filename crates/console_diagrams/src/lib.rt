@@ -1,6 +1,7 @@
 // The commands of the program console that alter nothing: on diagrams that are given, on words, and on the lists of a size. Each calls the
 // function that callers in C have, but for the summary, whose text is the census program's. The output lists are as long as the rooms.
 #![tactic(auto)]
+
 mod given;
 mod words;
 

@@ -1,6 +1,7 @@
 // The commands of the program console that alter the runs and the share book. The plain run lies with it as 54 numbers, the run through all sizes up to a
 // bound as 54 and its visits, and the book as 100. Each calls the function that callers in C have. The output lists are as long as the rooms.
 #![tactic(auto)]
+
 mod book;
 mod run;
 mod upto;

@@ -1,6 +1,7 @@
 // The tests of check that look at each number once: whether a number is one of 1..n, whether every entry of a list is, and whether
 // every mark of a search is 1.
 #![tactic(auto)]
+
 ghost use Rattle.std.specs.Prelude.{◌≡◌, ◌↔◌, true, length};
 ghost use Rattle.lists.specs.Ranges.{OneTo};
 ghost use Rattle.diagrams_entries.specs.Conditions.{Size, Entries, AllOne};

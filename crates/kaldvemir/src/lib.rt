@@ -3,6 +3,7 @@
 // writes the values that the answer has through the references that stand last; of what stands behind these it reads nothing. Each contract
 // passes on the promise of the operation.
 #![tactic(auto)]
+
 pub mod books;
 pub mod given;
 pub mod listed;

@@ -1,6 +1,7 @@
 // An answer told through the boundary: its number is returned, and its values are written where it has them. Nothing is written of a
 // refusal but a compare's side, and nothing that stands behind a reference is read.
 #![tactic(auto)]
+
 ghost use Rattle.std.specs.Prelude.{◌≡◌};
 ghost use Rattle.kaldvemir_answers.specs.Answers as answers;
 

@@ -1,5 +1,6 @@
 // The answers of the share book's operations, told through the boundary as those of crate kaldvemir_answers are.
 #![tactic(auto)]
+
 ghost use Rattle.std.specs.Prelude.{◌≡◌, cond};
 ghost use Rattle.book.specs.Answers as answers;
 

@@ -1,6 +1,7 @@
 // The answers of a run's operations. An accepted call's run is put in the place of the lent one; of the lent numbers a step and a listing
 // keep only the size, and a beginning none.
 #![tactic(auto)]
+
 ghost use Rattle.std.specs.Prelude.{◌≡◌, length};
 ghost use Rattle.run_blocks_answers.specs.Answers.{list_number, list_rows};
 ghost use Rattle.run_answers.specs.Answers.{begin_number, step_number, step_length};

@@ -1,6 +1,7 @@
 // The share book's operations on a book that lies with the caller as 100 numbers: an operation looks at them where they are, and writes those that
 // it alters. Take and commit are in crates kaldvemir_book_take and kaldvemir_book_commit.
 #![tactic(auto)]
+
 ghost use Rattle.std.specs.Prelude.{◌≡◌};
 ghost use Rattle.book.specs.Calls.{open_answer, open_book, claim_answer, claim_book, release_answer, release_book, report_answer};
 ghost use Rattle.kaldvemir_layout_book.specs.Layout.{book_in, book_numbers};

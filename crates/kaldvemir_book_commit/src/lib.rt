@@ -1,5 +1,6 @@
 // Commit, of one position and of a range, on a book that lies with the caller as 100 numbers.
 #![tactic(auto)]
+
 ghost use Rattle.std.specs.Prelude.{◌≡◌};
 ghost use Rattle.book.specs.Calls.{commit_answer, commit_book, commit_range_answer, commit_range_book};
 ghost use Rattle.kaldvemir_layout_book.specs.Layout.{book_in, book_numbers};

@@ -1,5 +1,6 @@
 // The book as 100 numbers.
 #![tactic(auto)]
+
 ghost use Rattle.std.specs.Prelude.{◌≡◌, ◌+◌, ◌≤◌, length};
 ghost use Rattle.std.proofs.Math.Seq.{paste};
 ghost use Rattle.book.specs.Changes.{heads_of, changed, Placed};

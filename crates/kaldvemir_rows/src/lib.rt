@@ -1,5 +1,6 @@
 // The rows of a run that lies with the caller as 54 numbers, as text.
 #![tactic(auto)]
+
 ghost use Rattle.std.specs.Prelude.{◌≡◌};
 ghost use Rattle.run_answers.specs.declared.Run.{Run};
 ghost use Rattle.run_text.specs.Answers.{rows_number, rows_given, rows_bytes, rows_kept};

@@ -1,5 +1,6 @@
 // A run through all sizes up to a bound that lies with the caller as 54 numbers, and beside them its visits.
 #![tactic(auto)]
+
 ghost use Rattle.std.specs.Prelude.{◌≡◌, length};
 ghost use Rattle.run_answers.specs.declared.Beginning.{Beginning};
 ghost use Rattle.run_answers.specs.Answers.{begin_number};

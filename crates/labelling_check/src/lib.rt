@@ -1,6 +1,7 @@
 // Check by the labelling: a diagram that is to be labelled anyway needs no search of its own for the eighth condition, since it is
 // connected exactly if every edge gets a label.
 #![tactic(auto)]
+
 ghost use Rattle.std.specs.Prelude.{[], ◌<◌, length};
 ghost use Rattle.diagrams.specs.Check.{RootedMaps};
 ghost use Rattle.labelling_code.specs.Scratch.{LabelsHeld};

@@ -2,6 +2,7 @@
 // the same one. The arrays of a labelling are made here, once for a question. A diagram that is asked about its own word needs no search
 // of its own for check's eighth condition, since it is connected exactly if every edge gets a label.
 #![tactic(auto)]
+
 ghost use Rattle.std.specs.Prelude.{◌≡◌, ◌↔◌, true, [], ◌<◌, length};
 ghost use Rattle.diagrams.specs.Check.{Accepts, RootedMaps};
 ghost use Rattle.pending_ring.specs.Ring.{Ring};

@@ -1,5 +1,6 @@
 // Whether two accepted diagrams are isomorphic, with their roots and without: a question about words.
 #![tactic(auto)]
+
 ghost use Rattle.std.specs.Prelude.{◌≡◌, ◌↔◌, true};
 ghost use Rattle.diagrams.specs.Check.{Accepts};
 ghost use Rattle.labelling_isomorphism.specs.Isomorphic.{IsomorphicBy};

@@ -1,6 +1,7 @@
 // The operations that stand on the labelling, for callers: relabel, the characteristic labelling by value, compare, symmetries, kept. Each
 // first checks the diagrams it is lent (refusals 1 to 8).
 #![tactic(auto)]
+
 pub use labelling_answers::{Comparison, KeepMark, Relabelling, Symmetry};
 pub use labelling_operations_compare::{compare_rooted, compare_unrooted};
 pub use labelling_operations_relabel::relabel;

@@ -1,6 +1,7 @@
 // Compare, with roots and without: whether two lent diagrams are isomorphic. It refuses what check refuses of the first, then of the
 // second (1 to 8, with the side).
 #![tactic(auto)]
+
 ghost use Rattle.labelling_answers.specs.Promises.{ComparePromise, CompareRootedPromise, CompareUnrootedPromise};
 
 use diagrams::Verdict;

@@ -1,5 +1,6 @@
 // Relabel: writes a lent diagram's characteristic labelling and its word. It refuses what check refuses (1 to 8), then a short output list (9).
 #![tactic(auto)]
+
 ghost use Rattle.std.specs.Prelude.{◌≡◌, ◌⊎◌, ◌↔◌, true, suc, ◌≤◌, ◌<◌, length};
 ghost use Rattle.diagrams.specs.Check.{Accepts};
 ghost use Rattle.labelling_answers.specs.Promises.{RelabelPromise};

@@ -1,5 +1,6 @@
 // Symmetries and kept: a lent diagram's word among the words of its rootings. Both refuse what check refuses (1 to 8).
 #![tactic(auto)]
+
 ghost use Rattle.std.specs.Prelude.{◌≡◌, true};
 ghost use Rattle.labelling_rootings.specs.Among.{UComesFirst};
 ghost use Rattle.labelling_answers.specs.Promises.{SymmetriesPromise, KeptPromise};

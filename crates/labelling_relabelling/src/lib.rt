@@ -1,6 +1,7 @@
 // Relabelling: the characteristic labelling and the word of an accepted diagram, written into lists that are long enough, and the
 // characteristic labelling of any lent diagram by value.
 #![tactic(auto)]
+
 ghost use Rattle.std.specs.Prelude.{◌≡◌, suc, ◌≤◌, length};
 ghost use Rattle.diagrams.specs.Check.{Accepts};
 ghost use Rattle.diagrams.specs.Held.{Held};

@@ -2,6 +2,7 @@
 // empty ring, which they leave empty: whoever knows its diagram to be good calls them without a check. They clear the stamps once for all
 // rootings. U_comes_first looks at s0 alone, and often answers before a word is written.
 #![tactic(auto)]
+
 pub mod least;
 
 ghost use Rattle.std.specs.Prelude.{◌≡◌, ◌↔◌, ◌≢◌, true, [], ℕ, ◌+◌, ◌<◌, length};

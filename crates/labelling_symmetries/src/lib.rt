@@ -1,6 +1,7 @@
 // How many of a diagram's rootings have a word. It asks for an accepted diagram, a stamp for each edge and an empty ring, which it leaves
 // empty.
 #![tactic(auto)]
+
 ghost use Rattle.std.specs.Prelude.{◌≡◌, [], ◌<◌, length};
 ghost use Rattle.diagrams.specs.Check.{Accepts};
 ghost use Rattle.pending_ring.specs.Ring.{Ring};

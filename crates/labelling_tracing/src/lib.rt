@@ -2,6 +2,7 @@
 // comparison need of it. An edge's stamp tells whether it is labelled, and a rooting's stamp is its number, so that the rootings of a
 // diagram can be traced one after another in rising order with nothing cleared between them.
 #![tactic(auto)]
+
 ghost use Rattle.std.specs.Prelude.{◌≡◌, ◌↔◌, true, List, [], ℕ, ◌+◌, ◌<◌, length, get_or};
 ghost use Rattle.lists.specs.Ranges.{OneTo};
 ghost use Rattle.diagrams.specs.Check.{Mapped};

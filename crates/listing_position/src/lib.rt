@@ -1,5 +1,6 @@
 // Position of a diagram: the ranking of its word among the words of its size. It refuses 1 to 8 as check does, then 31.
 #![tactic(auto)]
+
 ghost use Rattle.std.specs.Prelude.{◌<◌, length};
 ghost use Rattle.listing_ranking.specs.Promises.{PositionPromise};
 

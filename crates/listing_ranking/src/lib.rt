@@ -1,5 +1,6 @@
 // Count and diagram at a position, and what these two and position of a diagram (crate listing_position) answer.
 #![tactic(auto)]
+
 ghost use Rattle.std.specs.Prelude.{◌≡◌, length};
 ghost use Rattle.lists.specs.Ranges.{OneTo};
 ghost use Rattle.words.specs.Outputs.{Short, Written};

@@ -1,6 +1,7 @@
 // The diagram at a position of a listed size, with its word: unranking chooses the word's events one after another, and each is drawn as soon
 // as it is chosen, so that the word is gone through once.
 #![tactic(auto)]
+
 ghost use Rattle.std.specs.Prelude.{◌≡◌, List, ℕ, length};
 ghost use Rattle.lists.specs.Ranges.{OneTo};
 ghost use Rattle.words.specs.Word.{Pair};

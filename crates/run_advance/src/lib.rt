@@ -1,6 +1,7 @@
 // The diagram of the next word made from that of the word before it, the word being changed in place: events are taken back from the word's end
 // until an item can be raised, and the least ending is drawn as it is found. The counts of labels tell what follows, so no state is kept beside them.
 #![tactic(auto)]
+
 ghost use Rattle.std.specs.Prelude.{◌≡◌, ◌⊎◌, true, List, [], ◌∷◌, ℕ, ◌+◌, ◌-◌, ◌≤◌, length, take, drop};
 ghost use Rattle.lists.specs.Ranges.{OneTo};
 ghost use Rattle.words.specs.Shape.{Word};

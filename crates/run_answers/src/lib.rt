@@ -1,6 +1,7 @@
 // A run: what it carries, and what its beginning and its step answer. The answers' numbers and values are in specs/Answers, the runs of a
 // size and what the operations promise in specs/Promises.
 #![tactic(auto)]
+
 use diagrams::Diagram;
 
 // What a run carries: its size, whether it is fresh (0), at a diagram (1) or finished (2), and the word under construction; unused items are 0.

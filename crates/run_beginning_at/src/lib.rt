@@ -1,6 +1,7 @@
 // The beginning of a run at a position: the run that has given the first p diagrams, found by unranking, without walking to it. It refuses
 // 31, a size outside 1..50; then 32, a position above the count.
 #![tactic(auto)]
+
 ghost use Rattle.std.specs.Prelude.{◌≡◌};
 ghost use Rattle.lists.specs.Ranges.{OneTo};
 ghost use Rattle.listing.specs.Listing.{count};

@@ -3,6 +3,7 @@
 // answers "no rows"; then 9, an output list that is short. Fewer rows than asked for: the list ended, and the run is finished. With marks,
 // the keep mark of each diagram comes too.
 #![tactic(auto)]
+
 pub use run_blocks_answers::{Listed, Listing};
 pub use run_blocks_list::list;
 pub use run_blocks_marked::list_marked;

@@ -1,6 +1,7 @@
 // What a listing in blocks answers, and the tests before its first row, of the run and of the output lists. The answers' numbers and values are in specs/Answers, what the two
 // operations promise in specs/Promises.
 #![tactic(auto)]
+
 ghost use Rattle.std.specs.Prelude.{◌≡◌, ◌⊎◌, true, false, suc, ◌*◌, ◌≤◌, ◌<◌};
 ghost use Rattle.run_blocks_answers.specs.Tests.{TestedPromise};
 

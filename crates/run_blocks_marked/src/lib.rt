@@ -2,6 +2,7 @@
 // 34, a run that is neither fresh, nor at a diagram, nor finished; a finished run answers "no rows"; then 9, an output list that is short.
 // Fewer rows than asked for: the list ended, and the run is finished.
 #![tactic(auto)]
+
 ghost use Rattle.run_blocks_answers.specs.Promises.{ListMarkedPromise};
 
 use run_answers::Run;

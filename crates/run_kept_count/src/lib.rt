@@ -1,6 +1,7 @@
 // How many diagrams of a size are kept. A run lists all of them, in blocks with their keep marks, and the marks are counted: the time grows with
 // the list, the memory does not. Refuses 31, a size outside 1..50.
 #![tactic(auto)]
+
 ghost use Rattle.std.specs.Prelude.{◌≡◌, ℕ, ◌≤◌};
 ghost use Rattle.lists.specs.Ranges.{OneTo};
 ghost use Rattle.run_answers.specs.Promises.{RunAt};

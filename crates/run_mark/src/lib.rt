@@ -1,5 +1,6 @@
 // The keep mark of one diagram of a block, which is known to be accepted, with lent stamps and a lent ring that is left empty.
 #![tactic(auto)]
+
 ghost use Rattle.std.specs.Prelude.{◌≡◌, ◌⊎◌, [], ◌<◌, length};
 ghost use Rattle.diagrams.specs.Check.{Accepts};
 ghost use Rattle.pending_ring.specs.Ring.{Ring};

@@ -1,6 +1,7 @@
 // The keep marks of a block that is written. The stamps and the ring are made once for the block, and its diagrams are not checked:
 // they are those of a run.
 #![tactic(auto)]
+
 ghost use Rattle.std.specs.Prelude.{ℕ, ◌≤◌, length};
 ghost use Rattle.run_marks.specs.Marks.{BlockHeld, MarksWritten};
 

@@ -1,5 +1,6 @@
 // The next diagram of a run: the word that follows, whether the output lists have room for the diagram, and the writing of it.
 #![tactic(auto)]
+
 ghost use Rattle.std.specs.Prelude.{◌≡◌, ◌⊎◌, true, false, List, ℕ, suc, ◌<◌, ◌≤◌};
 ghost use Rattle.words.specs.Shape.{Word};
 ghost use Rattle.words.specs.Outputs.{Short};

@@ -1,5 +1,6 @@
 // One row of a block: the diagram of a word, the word and its length, written behind the rows before it.
 #![tactic(auto)]
+
 ghost use Rattle.run_row.specs.Row.{RowRoom, RowBegins, RowWritten};
 
 use lists::fill_from;

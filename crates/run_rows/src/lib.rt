@@ -1,5 +1,6 @@
 // The rows of a block, with the lists that spelling needs made here, once for the block.
 #![tactic(auto)]
+
 ghost use Rattle.std.specs.Prelude.{ℕ};
 ghost use Rattle.run_answers.specs.Promises.{RunAt};
 ghost use Rattle.run_rows_writing.specs.Promises.{ShortRows, RowsGiven};

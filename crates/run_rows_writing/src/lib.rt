@@ -1,5 +1,6 @@
 // The writing of a block's rows: the next diagrams of a run, as many as are asked for, one after another, as that many steps would give them.
 #![tactic(auto)]
+
 ghost use Rattle.std.specs.Prelude.{◌≡◌, ℕ, ◌≤◌, length};
 ghost use Rattle.words_respelling.specs.SpelledSoFar.{ScratchLengths};
 ghost use Rattle.listing_successor.specs.Successor.{padded_word};

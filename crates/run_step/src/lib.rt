@@ -1,6 +1,7 @@
 // A step of a run. It refuses 34, a run that is neither fresh, nor at a diagram, nor finished; a finished run answers "end"; then it
 // refuses 9, an output list that is short.
 #![tactic(auto)]
+
 ghost use Rattle.run_answers.specs.Promises.{StepPromise};
 
 use run_answers::{Run, Stepped, Stepping};

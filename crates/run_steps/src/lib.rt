@@ -2,6 +2,7 @@
 // position then 32. A step refuses 34, a run that is neither fresh, nor at a diagram, nor finished; a finished run answers "end"; then 9, an
 // output list that is short.
 #![tactic(auto)]
+
 pub use run_answers::{Beginning, Begun, Run, Stepped, Stepping};
 pub use run_beginning::begin;
 pub use run_beginning_at::begin_at;

@@ -2,6 +2,7 @@
 // with their keep marks. Refuses 34, a run that is neither fresh, nor at a diagram, nor finished; a finished run answers "no rows"; then 9,
 // fewer bytes than the rows asked for can need.
 #![tactic(auto)]
+
 ghost use Rattle.std.specs.Prelude.{◌≡◌, ◌≢◌, ◌+◌, ◌-◌, ◌*◌, ◌≤◌, min, length};
 ghost use Rattle.lists.specs.Ranges.{OneTo};
 ghost use Rattle.listing.specs.Listing.{count};

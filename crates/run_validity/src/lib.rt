@@ -1,5 +1,6 @@
 // Whether a run is valid: fresh, at a diagram of its size, or finished. A step refuses 34 exactly if it is not.
 #![tactic(auto)]
+
 ghost use Rattle.std.specs.Prelude.{◌≡◌, true, false, ◌≤◌, length, replicate};
 ghost use Rattle.run_validity.specs.Valid.{Staged, ValidRun};
 

@@ -59,7 +59,13 @@ fn open<W: Write>(stdout: &mut W, b: Book, size: u64, k: u64) -> io::Result<Book
     Ok(done.book)
 }
 
-fn claim<W: Write>(stdout: &mut W, b: Book, tick: u64, share: u64, length: u64) -> io::Result<Book> {
+fn claim<W: Write>(
+    stdout: &mut W,
+    b: Book,
+    tick: u64,
+    share: u64,
+    length: u64,
+) -> io::Result<Book> {
     write_call(stdout, b"claim", tick, share)?;
     write_number(stdout, length)?;
     let done = book_by_value::claim(b, tick, share, length);
@@ -97,7 +103,13 @@ fn take<W: Write>(stdout: &mut W, b: Book, tick: u64, ticket: u64) -> io::Result
     Ok(done.book)
 }
 
-fn commit<W: Write>(stdout: &mut W, b: Book, tick: u64, ticket: u64, position: u64) -> io::Result<Book> {
+fn commit<W: Write>(
+    stdout: &mut W,
+    b: Book,
+    tick: u64,
+    ticket: u64,
+    position: u64,
+) -> io::Result<Book> {
     write_call(stdout, b"commit", tick, ticket)?;
     write_number(stdout, position)?;
     let done = book_by_value::commit(b, tick, ticket, position);

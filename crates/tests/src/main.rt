@@ -3,6 +3,7 @@
 // census prints. The file stdout was written from document 01, the listings of sizes 1, 2 and 4 that were handed over and the published counts, not
 // from what the program prints.
 #![tactic(auto)]
+
 mod counts;
 mod lent_book;
 

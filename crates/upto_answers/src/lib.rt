@@ -1,6 +1,7 @@
 // A run through the single list of all sizes up to a bound: what it carries, and what its beginning and its step answer. The answers' numbers
 // and values are in specs/Answers, the runs of a bound and what the operations promise in specs/Promises.
 #![tactic(auto)]
+
 use diagrams::Diagram;
 use run_answers::Beginning;
 

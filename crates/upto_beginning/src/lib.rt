@@ -1,5 +1,6 @@
 // The beginning of a run through all sizes up to a bound. It refuses 31, a bound outside 1..50.
 #![tactic(auto)]
+
 ghost use Rattle.std.specs.Prelude.{◌≡◌, replicate};
 ghost use Rattle.upto_answers.specs.Promises.{UptoBeginPromise};
 

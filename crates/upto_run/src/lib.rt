@@ -2,6 +2,7 @@
 // the branch visits so far. Its beginning refuses 31. A step refuses 34, a run that is neither fresh, nor at a diagram with its visits, nor finished; after the
 // last diagram it answers "end"; then it refuses 9, an output list that is short for the diagram that comes.
 #![tactic(auto)]
+
 ghost use Rattle.std.specs.Prelude.{◌≡◌, List, ℕ, ◌≤◌, length};
 ghost use Rattle.words.specs.Shape.{Word};
 ghost use Rattle.words.specs.Outputs.{Short};

@@ -1,5 +1,6 @@
 // Whether a list is a word of some size up to a bound, and of which.
 #![tactic(auto)]
+
 ghost use Rattle.std.specs.Prelude.{◌≡◌, ◌≤◌, length};
 ghost use Rattle.upto_words.specs.Within.{first_labels, item_labels, labels_of};
 ghost use Rattle.upto_size.specs.Sizes.{SizePromise};

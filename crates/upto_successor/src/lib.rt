@@ -1,6 +1,7 @@
 // The word that follows a word in the single list of all sizes up to a bound. It goes by the stack's height and the labels left, so that no
 // diagram is made and no table is needed.
 #![tactic(auto)]
+
 ghost use Rattle.std.specs.Prelude.{◌≡◌, ◌⊎◌, [], ◌∷◌, ◌++◌, ◌+◌, ◌≤◌, length, take, replicate};
 ghost use Rattle.lists.specs.Ranges.{OneTo};
 ghost use Rattle.listing_successor_endings.specs.Endings.{shared_word};

@@ -1,5 +1,6 @@
 // How many branches there are from a stack of height h with at most f labels free on, as far as bounds up to 50 need it.
 #![tactic(auto)]
+
 ghost use Rattle.std.specs.Prelude.{◌≡◌};
 ghost use Rattle.upto_table.specs.Branches.{entry, BranchesPromise};
 

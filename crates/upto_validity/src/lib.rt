@@ -1,6 +1,7 @@
 // Whether a run through all sizes up to a bound is valid: fresh, at a diagram with its visits, or finished with those of the last. A step refuses 34
 // exactly if it is not.
 #![tactic(auto)]
+
 ghost use Rattle.std.specs.Prelude.{◌≡◌, true, false, ◌≤◌, length};
 ghost use Rattle.lists.specs.Ranges.{OneTo};
 ghost use Rattle.upto_validity.specs.Valid.{StagedUpto, ValidUpto};

@@ -1,6 +1,7 @@
 // The branch visits at a word of the single list, counted along the word: for each item the branch that it stands on, and the branches that begin
 // with an event before it, which the table has.
 #![tactic(auto)]
+
 ghost use Rattle.std.specs.Prelude.{◌≡◌, List, ◌∷◌, ℕ, suc, ◌+◌, ◌*◌, ◌≤◌};
 ghost use Rattle.lists.specs.Ranges.{OneTo};
 ghost use Rattle.upto_words.specs.Within.{FitsWithin, WordWithin};

@@ -1,5 +1,6 @@
 // Dictionary order of words: which of two comes first.
 #![tactic(auto)]
+
 ghost use Rattle.std.specs.Prelude.{◌≡◌, cond};
 ghost use Rattle.words_order.specs.Order.{precedes, lesser};
 

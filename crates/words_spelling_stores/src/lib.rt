@@ -1,6 +1,7 @@
 // What each event of a word stores into the lists of a diagram and into the small array of its pending labels, whose top is at the upper end:
 // at sizes up to 50 a ring of 1,025 links would cost more than the word.
 #![tactic(auto)]
+
 ghost use Rattle.std.specs.Prelude.{◌≡◌, ◌+◌, ◌-◌, ◌≤◌, ◌<◌, length, get_or, set};
 ghost use Rattle.lists.specs.Lists.{put};
 ghost use Rattle.lists.specs.Ranges.{OneTo};
