@@ -1,0 +1,9 @@
+-- `read_full` is safe and ends: what is left of the list falls.
+use Rattle.std.proofs.Common.{◌-◌, ◌≤◌, length}
+use Rattle.census_text.proofs.read_full.Given as goal
+
+abbrev pub invariant-loop-done : goal.invariant-loop-done
+invariant-loop-done g l = l.done ≤ length l.list
+
+abbrev pub decreases-loop-done : goal.decreases-loop-done
+decreases-loop-done g l = length l.list - l.done
