@@ -13,13 +13,7 @@ use Rattle.book_entries.specs.Entries.{book_with}
 use Rattle.book_heads.specs.Heads.{heads_valid}
 use Rattle.book.proofs.ValidBook.{among-true}
 use Rattle.book.proofs.Entries.{both-both}
-use Rattle.book_validity.proofs.valid.Statement.{statement}
-use Rattle.book_validity.proofs.valid.Tie as tie
-use Rattle.book_validity.proofs.valid.Reads as reads
-use Rattle.book_validity.proofs.valid.Lts as lts
-use Rattle.book_heads.proofs.heads_valid.Reads as heads-valid-reads
-use Rattle.book_shares.proofs.count_of.Reads as count-of-reads
-use Rattle.book_validity.proofs.entries_valid.Reads as entries-valid-reads
+use Rattle.book_validity.proofs.valid.Goals as goal
 
 -- the test of the heads comes before that of the entries
 valid-tests : (h : Heads) (p t e : List ℕ) → valid (book_with h p t e) ≡ both (heads_valid h) (entries_valid (book_with h p t e))
@@ -38,33 +32,17 @@ grounds h e =
     let s = both_true (leb h.issued 65535) (ltb h.latest (2 ^ 48)) q.1 in
     record { size_in = among-true 50 h.size r.0; shares_in = among-true 32 h.shares r.1; latest_in = ltb-true h.latest (2 ^ 48) s.1 }
 
-heads-valid-requires : tie.Need-heads-valid-requires
-heads-valid-requires c κs = search rules
+pub returns-then-heads_valid : goal.returns-then-heads_valid
+returns-then-heads_valid c =
+    rw (c.entries_valid.ensures, valid-tests, sym c.heads_valid.ensures ∙ c.if-heads_valid.true)
 
-count-of-requires : tie.Need-count-of-requires
-count-of-requires c κs = (grounds c.before.before.before.before.before.args.h (sym c.before.heads_valid.ensures ∙ c.if1.true)).size_in
+pub returns : goal.returns
+returns c = rw (valid-tests, sym c.heads_valid.ensures ∙ c.if-heads_valid.false)
 
-entries-valid-requires : tie.Need-entries-valid-requires
-entries-valid-requires c κs =
-    let g = c.before.before in
-    let o = g.before.before.before.before in
-    let s = grounds o.args.h (sym g.heads_valid.ensures ∙ c.before.if1.true) in
-    (c.count_of.ensures.0, c.count_of.ensures.1, s.shares_in, s.latest_in, o.requires)
+pub count_of-requires : goal.count_of-requires
+count_of-requires c = (grounds c.args.h (sym c.heads_valid.ensures ∙ c.if-heads_valid.true)).size_in
 
-returns : tie.Need-returns
-returns c =
-    let g = c.before.before.before in
-    rw (c.entries_valid.ensures, valid-tests, sym g.heads_valid.ensures ∙ c.before.before.if1.true)
-
-returns-2 : tie.Need-returns-2
-returns-2 c = rw (valid-tests, sym c.before.heads_valid.ensures ∙ c.if1.false)
-
-pub valid-spec : {M : Type 1} → statement M
-valid-spec =
-    tie.close
-    (tie.spec
-    heads-valid-requires
-    count-of-requires
-    entries-valid-requires
-    returns
-    returns-2)
+pub entries_valid-requires : goal.entries_valid-requires
+entries_valid-requires c =
+    let s = grounds c.args.h (sym c.heads_valid.ensures ∙ c.if-heads_valid.true) in
+    (c.count_of.ensures.0, c.count_of.ensures.1, s.shares_in, s.latest_in, c.requires)
