@@ -5,7 +5,7 @@
 use diagrams::Diagram;
 
 // What a run carries: its size, whether it is fresh (0), at a diagram (1) or finished (2), and the word under construction; unused items are 0.
-#[derive(Drop)]
+#[derive(Clone, Copy)]
 pub struct Run {
     pub size: u64,
     pub stage: u64,
