@@ -1,0 +1,14 @@
+-- `moves_all` meets its contract: all says whether each entry so far is another edge than its own.
+use borrow.Author.Rules.{rules}
+use mathlib.Core.Logic.{◌≢◌}
+use Prim.Native.Nat.{◌+◌, ◌-◌}
+use lib.ListN.{length, get_or}
+use Rattle.diagrams_entries.proofs.Answers.{Tested, tested-none, tested-more, tested-all}
+use Rattle.labelling_rootings.proofs.Moving.{unequal-test, places-moved}
+use Rattle.labelling_rootings.proofs.moves_all.Goals as goal
+
+pub returns : goal.returns
+returns c =
+    let a = tested-all _ c.loop-i.invariant c.loop-i-test.false in
+    let b = places-moved c.args.s0.now in
+    (λ q. b.0 (a.0 q), λ e. a.1 (b.1 e))

@@ -1,0 +1,31 @@
+-- `none_before` meets its contract.
+use borrow.Author.Rules.{rules}
+use mathlib.Core.Path.{◌≡◌, refl, sym, ◌∙◌}
+use mathlib.Core.Bool.{true≢false}
+use native.Mathlib.Omega.{arith}
+use lib.ListN.{length}
+use Rattle.diagrams_entries.proofs.Answers.{answer-no, yes-holds}
+use Rattle.labelling_rootings.specs.Among.{NoneBefore}
+use Rattle.labelling_rootings.proofs.NotLeast.{u-not-least}
+use Rattle.labelling_rootings.proofs.Tried.{Tried, none_more, none-fails}
+use Rattle.labelling_rootings.proofs.none_before.Goals as goal
+
+pub returns-then-u_comes_first-clause-answer : goal.returns-then-u_comes_first-clause-answer
+returns-then-u_comes_first-clause-answer c = answer-no (u-not-least _ _ _ _ c.requires.root_value (yes-holds c.u_comes_first.ensures c.if-u_comes_first.true))
+
+pub returns-then-comes_before-clause-answer : goal.returns-then-comes_before-clause-answer
+returns-then-comes_before-clause-answer c =
+    (λ e. absurd (true≢false (sym e)), λ k. absurd (none-fails _ _ _ c.loop-x.x (search rules) (sym c.comes_before.ensures.answer ∙ c.if-comes_before.true) k))
+
+pub loop-x-preserved : goal.loop-x-preserved
+loop-x-preserved c = (
+  record { size_is = c.loop-x.invariant.0.size_is; within = search rules; fresh = c.comes_before.ensures.stamped; empty = c.comes_before.ensures.empty; long = search rules },
+  none_more c.args.s0.now c.args.s1.now c.args.own.now c.loop-x.x c.loop-x.invariant.1 (sym c.comes_before.ensures.answer ∙ c.if-comes_before.false),
+)
+
+pub returns-clause-answer : goal.returns-clause-answer
+unfolding NoneBefore
+returns-clause-answer c =
+    let t = c.loop-x.invariant.0 in
+    let e : c.loop-x.x ≡ length c.args.s0.now = omega (arith, t.size_is) in
+    (λ _. rw e at c.loop-x.invariant.1, λ _. refl)
