@@ -1,7 +1,6 @@
 -- `answer_cell` answers 61 for a length above 51 and for a tail with a number in it, and else what locating the word answers.
 use mathlib.Core.Path.{sym, ◌∙◌}
 use Rattle.sheet_cell.proofs.Locating.{answered-long, answered-marked, answered-read}
-use borrow.Author.Rules.{rules}
 use Rattle.sheet_cell.proofs.answer_cell.Goals as goal
 
 pub returns-then-items : goal.returns-then-items

@@ -1,10 +1,8 @@
 -- `is_blank` meets its contract. Invariant: the list holds nothing but zeros exactly if the rest of it does.
-use mathlib.Core.Path.{◌≡◌, refl}
+use mathlib.Core.Path.{◌≡◌}
 use Prim.Native.Nat.{◌-◌}
 use lib.ListN.{length, drop}
 use Rattle.sheet.specs.Cells.{blank}
-use Rattle.sheet_cell.proofs.Locating.{blank-not, blank-next, blank-all}
-use borrow.Author.Rules.{rules}
 use Rattle.sheet_cell.proofs.is_blank.Given as goal
 
 abbrev pub invariant-loop-i : goal.invariant-loop-i

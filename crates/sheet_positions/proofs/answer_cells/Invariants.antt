@@ -1,9 +1,7 @@
 -- `answer_cells` meets its contract. Invariant: the cells before `start` are answered in the first i places of both lists (Answering, `Begun`).
 use Prim.Native.Nat.{◌-◌}
-use native.Mathlib.Omega.{arith}
 use lib.ListN.{length}
-use Rattle.sheet_positions.proofs.Answering.{Begun, begun-none, cell-within, begun_more, begun_all}
-use borrow.Author.Rules.{rules}
+use Rattle.sheet_positions.proofs.Answering.{Begun}
 use Rattle.sheet_positions.proofs.answer_cells.Given as goal
 
 abbrev pub invariant-loop-start : goal.invariant-loop-start

@@ -1,8 +1,7 @@
 -- `sheet_positions` refuses a length that is no multiple of 52, then a list that is short, and else answers the cells.
 use mathlib.Core.Path.{refl}
 use mathlib.Core.Logic.{inl, inr}
-use Rattle.sheet_positions.proofs.Answering.{undivided, divided, short, not_short}
-use borrow.Author.Rules.{rules}
+use Rattle.sheet_positions.proofs.Answering.{divided, short, not_short}
 use Rattle.sheet_positions.proofs.sheet_positions.Goals as goal
 
 pub returns-then-refusals-cells : goal.returns-then-refusals-cells
