@@ -1,0 +1,18 @@
+-- `first_word` meets its contract: where U leads to no end, T does.
+use Rattle.std.proofs.Common.{◌≡◌, ℕ, sym, ap, ◌∙◌}
+use Rattle.listing_successor_states.specs.declared.StackState.{StackState}
+use Rattle.listing_successor.specs.Successor.{state_after_first, can_end, first_word}
+use Rattle.listing_successor.proofs.Branches.{start-T-ends, start-U-dead}
+use Rattle.run_advance.proofs.first_word.Goals as goal
+
+pub returns-then-can_end : goal.returns-then-can_end
+unfolding first_word
+returns-then-can_end c =
+    let tried = c.can_end.ensures ∙ ap (λ (l : StackState). can_end l.height l.free) c.state_after_first-u.ensures in
+    rw (sym tried ∙ c.if-can_end.true) c.begin_word.ensures
+
+pub returns : goal.returns
+unfolding first_word
+returns c =
+    let tried = c.can_end.ensures ∙ ap (λ (l : StackState). can_end l.height l.free) c.state_after_first-u.ensures in
+    rw (sym tried ∙ c.if-can_end.false) c.begin_word-2.ensures
