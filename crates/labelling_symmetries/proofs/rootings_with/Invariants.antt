@@ -1,0 +1,20 @@
+-- `rootings_with` meets its contract. The loop's invariant: the count is that of the rootings 1..x.
+use borrow.Author.Rules.{rules}
+use mathlib.Core.Path.{◌≡◌, refl, ◌∙◌}
+use Prim.Native.Nat.{◌-◌}
+use native.Mathlib.Omega.{arith}
+use lib.ListN.{length}
+use Rattle.lists.specs.Ranges.{card}
+use Rattle.lists.proofs.Ranges.{card-most}
+use Rattle.diagrams.proofs.Checks.{accepts-mapped}
+use Rattle.words.specs.Order.{same}
+use Rattle.labelling.specs.Labelling.{word_of}
+use Rattle.labelling_rootings.specs.Among.{rootings_with}
+use Rattle.labelling_rootings.proofs.Tried.{Tried, card-more}
+use Rattle.labelling_symmetries.proofs.rootings_with.Given as goal
+
+abbrev pub invariant-loop-x : goal.invariant-loop-x
+invariant-loop-x l = Tried l.s0 l.n l.next l.prev l.initial.stamps l.stamps l.x × (l.found ≡ card l.x (λ y. same (word_of l.s0 l.s1 y) l.own))
+
+abbrev pub decreases-loop-x : goal.decreases-loop-x
+decreases-loop-x l = l.n - l.x
