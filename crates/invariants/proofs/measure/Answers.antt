@@ -1,15 +1,13 @@
 -- Measure: each call gives the number that a definition names, the level where it is not 0; those bound what t is given.
-use borrow.Author.Rules.{rules}
 use native.Mathlib.Omega.{arith}
-use mathlib.Core.Path.{◌≡◌, refl, ap, ◌∙◌}
-use mathlib.Core.List.{List}
-use Prim.Native.Nat.{ℕ, ◌^◌, ◌≤◌, ◌<◌}
+use mathlib.Core.Path.{◌≡◌, ap, ◌∙◌}
+use Prim.Native.Nat.{ℕ}
 use lib.ListN.{length}
 use mir.Syntax.{w32}
 use mir.ValLaws.{to_z-of_z}
 use Rattle.lists.specs.Lists.{at}
-use Rattle.invariants_multiples.proofs.Holding.{held-zero, held-some}
-use Rattle.invariants_cycles.specs.Cycles.{cycles, fixed_points, cusp_map, level}
+use Rattle.invariants_multiples.proofs.Holding.{held-some}
+use Rattle.invariants_cycles.specs.Cycles.{fixed_points, cusp_map}
 use Rattle.invariants_cycles.proofs.Cycles.{fixes-most, cycles-most}
 use Rattle.invariants.proofs.Differences.{t_of}
 use Rattle.invariants.proofs.measure.Goals as goal

@@ -1,12 +1,8 @@
 -- Count cycles: with the edges 1..i done, their cycles are marked and counted, and the least common multiple of their lengths is known.
 use native.Mathlib.Omega.{arith}
-use Prim.Native.Nat.{◌+◌, ◌-◌}
-use borrow.Author.Rules.{rules}
-use lib.ListN.{length}
-use Rattle.lists.specs.Lists.{at}
-use Rattle.invariants_cycles.specs.Cycles.{Permutation, cusp_map}
+use Prim.Native.Nat.{◌+◌}
 use Rattle.invariants_cycles.proofs.Cycles.{around-perm, period_is}
-use Rattle.invariants_counting.proofs.Counts.{Counted, count-start, count-few, count-end, count-skip, count-new}
+use Rattle.invariants_counting.proofs.Counts.{count-start, count-few, count-end, count-skip, count-new}
 use Rattle.invariants_counting.proofs.count_cycles.Goals as goal
 
 pub loop-i-init : goal.loop-i-init

@@ -1,12 +1,9 @@
 -- Count cycles: with the edges 1..i done, their cycles are marked and counted, and the least common multiple of their lengths is known.
-use native.Mathlib.Omega.{arith}
-use Prim.Native.Nat.{◌+◌, ◌-◌}
-use borrow.Author.Rules.{rules}
+use Prim.Native.Nat.{◌-◌}
 use lib.ListN.{length}
 use Rattle.lists.specs.Lists.{at}
-use Rattle.invariants_cycles.specs.Cycles.{Permutation, cusp_map}
-use Rattle.invariants_cycles.proofs.Cycles.{around-perm, period_is}
-use Rattle.invariants_counting.proofs.Counts.{Counted, count-start, count-few, count-end, count-skip, count-new}
+use Rattle.invariants_cycles.specs.Cycles.{cusp_map}
+use Rattle.invariants_counting.proofs.Counts.{Counted}
 use Rattle.invariants_counting.proofs.count_cycles.Given as goal
 
 abbrev pub invariant-loop-i : goal.invariant-loop-i

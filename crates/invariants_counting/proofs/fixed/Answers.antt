@@ -1,11 +1,8 @@
 -- Fixed: with the first i edges tested, the count is how many of them the list fixes.
 use native.Mathlib.Omega.{arith}
-use mathlib.Core.Path.{◌≡◌, sym, ◌∙◌}
-use Prim.Native.Nat.{◌-◌, ◌≤◌}
+use mathlib.Core.Path.{sym, ◌∙◌}
 use borrow.Author.Rules.{rules}
-use lib.ListN.{length}
 use Rattle.lists.specs.Lists.{at}
-use Rattle.invariants_cycles.specs.Cycles.{fixed_points}
 use Rattle.invariants_cycles.proofs.Cycles.{fixes-most}
 use Rattle.invariants_counting.proofs.FixedEdges.{fixes-none, fixes-one-more, fixes-no-more}
 use Rattle.invariants_counting.proofs.fixed.Goals as goal

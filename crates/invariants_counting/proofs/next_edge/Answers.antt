@@ -1,10 +1,8 @@
 -- Onward: the white partner is an edge, so its black entry can be read.
-use borrow.Author.Rules.{rules}
-use mathlib.Core.Path.{◌∙◌}
 use native.Mathlib.Omega.{arith}
 use Rattle.lists.specs.Ranges.{OneTo}
 use lib.ListN.{length}
-use Rattle.invariants_counting.proofs.Walks.{partner-in, onward-is}
+use Rattle.invariants_counting.proofs.Walks.{partner-in}
 use Rattle.invariants_counting.proofs.next_edge.Goals as goal
 
 -- the white partner that the code has read is an edge
