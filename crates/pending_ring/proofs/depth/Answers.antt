@@ -1,7 +1,7 @@
 -- Depth: a walk down to the place of l. Each label passed is another one, so the walk ends there and not before.
 use native.Mathlib.Omega.{arith}
 use Rattle.lists.proofs.Lists.{find-lt}
-use Rattle.pending_ring.proofs.Laws.{walk-small, walk-few, walk-next, walk-on, walk-found}
+use Rattle.pending_ring.proofs.Laws.{walk-few, walk-next, walk-on, walk-found}
 use Rattle.pending_ring.proofs.depth.Goals as goal
 
 pub overflow_add-d : goal.overflow_add-d

@@ -1,12 +1,9 @@
 -- Depth: a walk down to the place of l. Each label passed is another one, so the walk ends there and not before.
 use mathlib.Core.List.{List}
-use Prim.Native.Nat.{ℕ, ◌-◌, ◌<◌}
-use native.Mathlib.Omega.{arith}
-use borrow.Author.Rules.{rules}
+use Prim.Native.Nat.{ℕ, ◌-◌}
 use Rattle.lists.specs.Lists.{Has, find}
-use Rattle.lists.proofs.Lists.{find-lt}
 use Rattle.pending_ring.specs.Ring.{Ring}
-use Rattle.pending_ring.proofs.Laws.{Walk, walk_start, walk-small, walk-few, walk-next, walk-on, walk-found}
+use Rattle.pending_ring.proofs.Laws.{Walk}
 use Rattle.pending_ring.proofs.depth.Given as goal
 
 abbrev pub invariant-loop-index : goal.invariant-loop-index

@@ -1,12 +1,9 @@
 -- Label at: a walk down to the place d, which is within the stack.
-use mathlib.Core.Path.{◌∙◌, ap}
 use mathlib.Core.List.{List}
 use Prim.Native.Nat.{ℕ, ◌-◌, ◌<◌, ◌≤◌}
-use native.Mathlib.Omega.{arith}
-use lib.ListN.{length, get_or}
-use borrow.Author.Rules.{rules}
+use lib.ListN.{length}
 use Rattle.pending_ring.specs.Ring.{Ring}
-use Rattle.pending_ring.proofs.Laws.{Walk, walk_start, walk-small, walk-label, walk-next}
+use Rattle.pending_ring.proofs.Laws.{Walk}
 use Rattle.pending_ring.proofs.label_at.Given as goal
 
 abbrev pub invariant-loop-i : goal.invariant-loop-i
