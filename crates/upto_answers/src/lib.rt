@@ -7,7 +7,7 @@ use run_answers::Beginning;
 
 // What a run carries: its bound, whether it is fresh (0), at a diagram (1) or finished (2), the word that it is at, and the branch visits so far;
 // unused items are 0.
-#[derive(Drop)]
+#[derive(Clone, Copy)]
 pub struct UptoRun {
     pub bound: u64,
     pub stage: u64,
