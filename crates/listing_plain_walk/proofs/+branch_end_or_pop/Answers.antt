@@ -1,5 +1,5 @@
 -- Twice the pending edges plus the labels free falls with each event, and each event writes its part.
-use Rattle.std.proofs.Common.{arith, ◌≡◌, ◌+◌, ◌-◌, suc}
+use Rattle.std.proofs.Common.{arith, ◌≡◌, ◌+◌}
 use Rattle.listing_plain_walk.proofs.Steps.{branched-none, branched-room, branched-more, branched-all, dead, ending, ended}
 use Rattle.listing_plain_walk.proofs.+branch_end_or_pop.Goals as goal
 

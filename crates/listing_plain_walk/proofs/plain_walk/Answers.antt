@@ -1,5 +1,5 @@
 -- The two calls write the words that begin with U and those that begin with T, which together are the listing.
-use Rattle.std.proofs.Common.{arith, refl, ◌<◌, ◌≤◌, length}
+use Rattle.std.proofs.Common.{arith, refl}
 use Rattle.lists.specs.Ranges.{OneTo}
 use Rattle.listing_plain_walk.proofs.Sizes.{first-room, wrote_U, second-room, wrote-both}
 use Rattle.listing_plain_walk.proofs.plain_walk.Goals as goal

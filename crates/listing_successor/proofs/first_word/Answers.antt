@@ -1,5 +1,5 @@
 -- Where U leads to no end, T does.
-use Rattle.std.proofs.Common.{rules, ◌≡◌, true, false, sym, ap, ◌∙◌}
+use Rattle.std.proofs.Common.{rules, ◌≡◌, sym, ap, ◌∙◌}
 use Rattle.listing_successor.specs.Successor.{state_after_first, can_end, first_word}
 use Rattle.listing_successor_states.specs.declared.StackState.{StackState}
 use Rattle.listing_successor.proofs.Branches.{start-T-ends, start-U-dead}

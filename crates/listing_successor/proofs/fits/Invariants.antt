@@ -1,10 +1,7 @@
 -- `fits` meets its contract. Invariant: what is left fits the state reached exactly if the whole fits the first state.
 use Prim.Native.Nat.{◌-◌}
 use lib.ListN.{length}
-use borrow.Author.Rules.{rules}
-use mathlib.Core.Bool.{true≢false}
-use mathlib.Core.Path.{sym}
-use Rattle.listing_successor.proofs.Forwards.{Forth, forth-more, forth-0, forth-not}
+use Rattle.listing_successor.proofs.Forwards.{Forth}
 use Rattle.listing_successor.proofs.fits.Given as goal
 
 abbrev pub invariant-loop-i : goal.invariant-loop-i

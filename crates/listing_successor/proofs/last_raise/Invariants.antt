@@ -1,13 +1,9 @@
 -- `last_raise` meets its contract. Invariant: the items before i lead to the state, and no item from i on can be raised; so the first item
 -- on the way back that can be raised is the last of the word.
-use mathlib.Core.Path.{◌≡◌}
-use Prim.Native.Nat.{ℕ, suc, ◌+◌, ◌-◌, ◌≤◌, ◌<◌}
-use native.Mathlib.Omega.{arith}
+use Prim.Native.Nat.{ℕ, ◌+◌, ◌≤◌}
 use lib.ListN.{length}
-use borrow.Author.Rules.{rules}
-use mathlib.Core.List.{List}
 use Rattle.words.specs.Shape.{Fits}
-use Rattle.listing_successor.proofs.Backwards.{Back, back_start, back_read, back-small, back-item, back_more, back-raise, back_none}
+use Rattle.listing_successor.proofs.Backwards.{Back}
 use Rattle.listing_successor.proofs.last_raise.Given as goal
 
 abbrev pub invariant-loop-i : goal.invariant-loop-i

@@ -1,5 +1,5 @@
 -- By `last_raise` an item after the first is raised; where none can be, U becomes T, or the word is the last.
-use Rattle.std.proofs.Common.{arith, rules, ◌≡◌, ◌≢◌, ◌⊎◌, inl, inr, refl, List, [], ℕ, ◌+◌, ◌≤◌, ◌<◌, length, get_or}
+use Rattle.std.proofs.Common.{arith, ◌≡◌, ◌≢◌, ◌⊎◌, inl, inr, refl, List, [], ℕ, ◌+◌, ◌≤◌, ◌<◌, length, get_or}
 use Rattle.words.specs.Shape.{Fits, Word}
 use Rattle.listing_successor.specs.Successor.{state_after_first, least_ending, shared_word}
 use Rattle.listing_successor.specs.Promises.{SuccessorPromise}
@@ -7,7 +7,7 @@ use Rattle.listing_successor.specs.Reading.{Raises}
 use Rattle.listing_successor.proofs.Padding.{succeeds}
 use Rattle.listing_successor_states.proofs.States.{start_small}
 use Rattle.listing_successor.proofs.Forwards.{rest, word-to-rest}
-use Rattle.listing_successor.proofs.Branches.{word-there, start-T-ends, raised-room, following-first, following-raised, following-rooted, following-none}
+use Rattle.listing_successor.proofs.Branches.{word-there, raised-room, following-first, following-raised, following-rooted, following-none}
 use Rattle.listing_successor.proofs.successor.Goals as goal
 
 module _ (n : ℕ) (word : List ℕ) (size : n ≤ 50) (asked : (word ≡ []) ⊎ Word n word) (some : length word ≢ 0) where

@@ -1,5 +1,4 @@
 -- `append_event` meets its contract: the event is one item more, and `end_word` writes the rest.
-use borrow.Author.Rules.{rules}
 use mathlib.Core.List.{◌∷◌, [], ◌++◌}
 use native.Mathlib.Omega.{arith}
 use Rattle.lists.proofs.Lists.{length-1}

@@ -1,13 +1,6 @@
 -- `end_word` meets its contract. Invariant: the items written so far, with the least ending from the state reached, are what is to be
 -- written. Each item lowers the sum of the height and the free labels, the measure.
-use mathlib.Core.Path.{◌≡◌}
-use mathlib.Core.List.{List}
-use Prim.Native.Nat.{ℕ, ◌+◌}
-use lib.ListN.{length}
-use borrow.Author.Rules.{rules}
-use native.Mathlib.Omega.{arith}
-use Rattle.listing_successor_endings.specs.Endings.{padded_word}
-use Rattle.listing_successor_endings.proofs.Padding.{Ends, Wrote, wrote_none, wrote-all, ends-room, ends-less, ends_more, wrote-more}
+use Rattle.listing_successor_endings.proofs.Padding.{wrote-all, ends-room, ends-less, ends_more, wrote-more}
 use Rattle.listing_successor_endings.proofs.end_word.Goals as goal
 
 pub bounds-items-i : goal.bounds-items-i

@@ -4,10 +4,8 @@ use mathlib.Core.Path.{◌≡◌}
 use mathlib.Core.List.{List}
 use Prim.Native.Nat.{ℕ, ◌+◌}
 use lib.ListN.{length}
-use borrow.Author.Rules.{rules}
-use native.Mathlib.Omega.{arith}
 use Rattle.listing_successor_endings.specs.Endings.{padded_word}
-use Rattle.listing_successor_endings.proofs.Padding.{Ends, Wrote, wrote_none, wrote-all, ends-room, ends-less, ends_more, wrote-more}
+use Rattle.listing_successor_endings.proofs.Padding.{Ends, Wrote}
 use Rattle.listing_successor_endings.proofs.end_word.Given as goal
 
 abbrev pub invariant-loop-h : goal.invariant-loop-h

@@ -1,5 +1,4 @@
 -- `least_word` meets its contract: `append_event` from nothing, at the state after the first item.
-use borrow.Author.Rules.{rules}
 use mathlib.Core.Path.{refl}
 use mathlib.Core.List.{◌∷◌, []}
 use Rattle.listing_successor_endings.specs.Endings.{least_ending}

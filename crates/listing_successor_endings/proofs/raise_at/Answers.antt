@@ -1,5 +1,4 @@
 -- `raise_at` meets its contract: the beginning of the word filled into zeros, and then `grow`.
-use borrow.Author.Rules.{rules}
 use mathlib.Core.Path.{sym}
 use mathlib.Core.List.{◌∷◌, ◌++◌}
 use native.Mathlib.Omega.{arith}

@@ -1,5 +1,4 @@
 -- `can_end_after` meets its contract: the state after the item, tested.
-use borrow.Author.Rules.{rules}
 use mathlib.Core.Path.{◌∙◌, ap}
 use Rattle.listing_successor_states.specs.declared.StackState.{StackState}
 use Rattle.listing_successor_events.specs.Events.{can_end, can_end_after}

@@ -1,5 +1,4 @@
 -- `least_above` meets its contract: its tests are those of the definition, in the same order.
-use borrow.Author.Rules.{rules}
 use mathlib.Core.Path.{◌∙◌, sym}
 use Rattle.listing_successor_events.specs.Events.{least_above}
 use Rattle.listing_successor_events.proofs.least_above.Goals as goal

@@ -1,5 +1,4 @@
 -- `least_event` meets its contract: W, or else the least event above W.
-use borrow.Author.Rules.{rules}
 use mathlib.Core.Path.{◌∙◌, sym}
 use Rattle.listing_successor_events.specs.Events.{least_event}
 use Rattle.listing_successor_events.proofs.least_event.Goals as goal

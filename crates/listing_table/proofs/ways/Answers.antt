@@ -1,5 +1,4 @@
 -- `ways` answers the table's number, which is the number of ways (`found`).
-use borrow.Author.Rules.{rules}
 use Rattle.listing_table.proofs.Table.{found}
 use Rattle.listing_table.proofs.ways.Goals as goal
 
