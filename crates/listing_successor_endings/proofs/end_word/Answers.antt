@@ -6,10 +6,6 @@ use Rattle.listing_successor_endings.proofs.end_word.Goals as goal
 pub bounds-items-i : goal.bounds-items-i
 bounds-items-i c = ends-room _ _ _ c.loop-h-test.true c.loop-h.invariant.0
 
--- DROPPED overflow-add-i
--- add-i : tie.Need-overflow-add-i invariant-loop decreases-loop
--- add-i c = let r = ends-room _ _ _ c.before.before.loop-test.true c.before.before.before.loop.invariant.0 in record { fits = omega arith }
-
 pub loop-h-smaller : goal.loop-h-smaller
 loop-h-smaller c = ends-less _ _ _ c.loop-h-test.true c.loop-h.invariant.0 _ c.least_event-e.ensures _ c.state_after_item-l.ensures
 
