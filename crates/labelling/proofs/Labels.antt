@@ -7,7 +7,7 @@ use Prim.Native.Nat.{ℕ, zero, suc, ◌≤◌}
 use native.Mathlib.Omega.{arith}
 use lib.Dec.{eqb}
 use lib.ListN.{length}
-use Rattle.lists.specs.Lists.{at, Has, Distinct, has, find}
+use Rattle.lists.specs.Lists.{Has, Distinct, has, find}
 use Rattle.lists.specs.Ranges.{OneTo, down}
 use Rattle.lists.proofs.Lists.{pigeons}
 use Rattle.lists.proofs.Ranges.{down-has, distinct-down, length-down}

@@ -16,7 +16,7 @@ use Rattle.labelling.specs.Labelling.{event, label, edge_of, labels, word_of}
 use Rattle.labelling.proofs.Standing.{Standing, standing-begin, standing-room, standing-event, standing-end}
 use Rattle.labelling.proofs.Labels.{edge_in}
 use Rattle.labelling.proofs.Reached.{labels-done}
-use Rattle.labelling_code.specs.Scratch.{LabelsHeld, Underway, first_event_of, EventDone, WordWritten}
+use Rattle.labelling_code.specs.Scratch.{Underway, first_event_of, EventDone, WordWritten}
 use Rattle.labelling_events.specs.declared.EventItem.{EventItem}
 
 -- the labelling from the root stands behind the items w, and the arrays hold it; t edges are pending

@@ -10,7 +10,7 @@ use Rattle.lists.specs.Lists.{at, Has}
 use Rattle.lists.proofs.Copies.{written-more, written-length}
 use Rattle.pending_ring.specs.Ring.{Ring}
 use Rattle.pending_ring.proofs.Laws.{ring-top}
-use Rattle.labelling.specs.Labelling.{event, events, label, labels, word_of}
+use Rattle.labelling.specs.Labelling.{event, label, labels, word_of}
 use Rattle.labelling_events.specs.Scratch.{first_event_of}
 use Rattle.labelling_tracing_events.specs.declared.EventItem.{EventItem}
 use Rattle.labelling_tracing_events.specs.Stamps.{Underway, EventDone}

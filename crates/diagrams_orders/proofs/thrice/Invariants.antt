@@ -1,10 +1,8 @@
 -- `thrice` meets its contract: the loop has passed only edges that three steps give back.
-use mathlib.Core.Path.{◌≡◌, sym, ap, ◌∙◌}
-use mathlib.Core.List.{List}
-use Prim.Native.Nat.{ℕ, ◌+◌, ◌-◌}
-use borrow.Author.Rules.{rules}
+use mathlib.Core.Path.{◌≡◌}
+use Prim.Native.Nat.{◌+◌, ◌-◌}
 use Rattle.lists.specs.Lists.{at}
-use Rattle.diagrams_entries.proofs.Answers.{answer-yes, answer-no, Passed, passed_none, passed-more, passed-all}
+use Rattle.diagrams_entries.proofs.Answers.{Passed}
 use Rattle.diagrams_orders.proofs.thrice.Given as goal
 
 abbrev pub invariant-loop-x : goal.invariant-loop-x

@@ -1,9 +1,6 @@
 -- `lower_neighbours` meets its contract: the loop has passed only edges that have a lower neighbour, and edge 1, of which none is asked.
-use borrow.Author.Rules.{rules}
-use borrow.Author.Tests.{not-true, not-false}
 use Prim.Native.Nat.{◌+◌, ◌-◌, ◌<◌}
-use native.Mathlib.Omega.{arith}
-use Rattle.diagrams_entries.proofs.Answers.{answer-yes, answer-no, yes-holds, no-fails, Passed, passed_none, passed-more, passed-all}
+use Rattle.diagrams_entries.proofs.Answers.{Passed}
 use Rattle.diagrams_search.specs.Lower.{LowerNeighbour}
 use Rattle.diagrams_search.proofs.lower_neighbours.Given as goal
 

@@ -1,7 +1,6 @@
 -- `visit` meets its contract: two calls of `reach`.
-use mathlib.Core.Path.{◌≡◌, ◌∙◌, ap}
 use native.Mathlib.Omega.{arith}
-use lib.ListN.{length, take, length-set}
+use lib.ListN.{take}
 use Rattle.diagrams_search.proofs.Searching.{black-small, white-small, joined-both}
 use Rattle.diagrams_search.proofs.visit.Goals as goal
 

@@ -4,15 +4,12 @@ use borrow.Author.Rules.{rules}
 use mathlib.Core.Path.{◌≡◌, sym, ap, ◌∙◌, subst}
 use mathlib.Core.Logic.{◌≢◌}
 use mathlib.Core.List.{List, ◌∷◌}
-use Prim.Native.Nat.{ℕ, ◌≤◌, ◌<◌, ◌-◌}
+use Prim.Native.Nat.{ℕ}
 use native.Mathlib.Omega.{arith}
-use lib.ListN.{length, get_or}
+use lib.ListN.{get_or}
 use Rattle.lists.specs.Lists.{at, Has}
-use Rattle.lists.specs.Ranges.{OneTo}
 use Rattle.lists.proofs.Lists.{find-lt}
-use Rattle.pending_ring.specs.Ring.{Ring}
 use Rattle.pending_ring.proofs.Laws.{ring-few}
-use Rattle.labelling_events.specs.Scratch.{Underway}
 use Rattle.labelling_events.proofs.Underway.{popped-edge, partner-edge, partner-small, partner-pending, did-W, did-J, did-B, did-F, event-B-room, fork-room, fork-new}
 use Rattle.labelling_events.proofs.event.Goals as goal
 

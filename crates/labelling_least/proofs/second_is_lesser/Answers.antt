@@ -1,12 +1,7 @@
 -- `second_is_lesser` meets its contract: a last item left off does not alter the order.
-use mathlib.Core.Path.{sym, ◌∙◌}
-use Prim.Native.Nat.{◌-◌}
+use mathlib.Core.Path.{◌∙◌}
 use native.Mathlib.Omega.{arith}
-use lib.ListN.{length}
-use lib.Seq.{length-take-le}
-use Rattle.words.proofs.Order.{precedes-past}
 use Rattle.labelling_least.proofs.LesserPart.{without-last, without-last-of-first}
-use borrow.Author.Rules.{rules}
 use Rattle.labelling_least.proofs.second_is_lesser.Goals as goal
 
 pub returns-then-b-last : goal.returns-then-b-last

@@ -1,10 +1,8 @@
 -- `moves_all` meets its contract: all says whether each entry so far is another edge than its own.
-use borrow.Author.Rules.{rules}
 use mathlib.Core.Logic.{◌≢◌}
 use Prim.Native.Nat.{◌+◌, ◌-◌}
 use lib.ListN.{length, get_or}
-use Rattle.diagrams_entries.proofs.Answers.{Tested, tested-none, tested-more, tested-all}
-use Rattle.labelling_rootings.proofs.Moving.{unequal-test, places-moved}
+use Rattle.diagrams_entries.proofs.Answers.{Tested}
 use Rattle.labelling_rootings.proofs.moves_all.Given as goal
 
 abbrev pub invariant-loop-i : goal.invariant-loop-i

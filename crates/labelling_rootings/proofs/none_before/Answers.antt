@@ -7,7 +7,7 @@ use lib.ListN.{length}
 use Rattle.diagrams_entries.proofs.Answers.{answer-no, yes-holds}
 use Rattle.labelling_rootings.specs.Among.{NoneBefore}
 use Rattle.labelling_rootings.proofs.NotLeast.{u-not-least}
-use Rattle.labelling_rootings.proofs.Tried.{Tried, none_more, none-fails}
+use Rattle.labelling_rootings.proofs.Tried.{none_more, none-fails}
 use Rattle.labelling_rootings.proofs.none_before.Goals as goal
 
 pub returns-then-u_comes_first-clause-answer : goal.returns-then-u_comes_first-clause-answer

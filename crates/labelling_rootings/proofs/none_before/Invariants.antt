@@ -1,18 +1,9 @@
 -- `none_before` meets its contract. The loop's invariant: no word of the rootings 1..x comes before own.
-use borrow.Author.Rules.{rules}
-use mathlib.Core.Path.{◌≡◌, refl, sym, ◌∙◌}
-use mathlib.Core.Bool.{true≢false}
 use Prim.Native.Nat.{ℕ, ◌-◌}
-use native.Mathlib.Omega.{arith}
-use lib.ListN.{length}
 use Rattle.lists.specs.Ranges.{OneTo}
-use Rattle.diagrams_entries.proofs.Answers.{answer-no, yes-holds}
-use Rattle.diagrams.proofs.Checks.{accepts-mapped}
 use Rattle.words.specs.Order.{Before}
 use Rattle.labelling.specs.Labelling.{word_of}
-use Rattle.labelling_rootings.specs.Among.{NoneBefore}
-use Rattle.labelling_rootings.proofs.NotLeast.{u-not-least}
-use Rattle.labelling_rootings.proofs.Tried.{Tried, none_more, none-fails}
+use Rattle.labelling_rootings.proofs.Tried.{Tried}
 use Rattle.labelling_rootings.proofs.none_before.Given as goal
 
 abbrev pub invariant-loop-x : goal.invariant-loop-x

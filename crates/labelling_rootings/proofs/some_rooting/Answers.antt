@@ -1,10 +1,10 @@
 -- `some_rooting` meets its contract.
 use borrow.Author.Rules.{rules}
-use mathlib.Core.Path.{◌≡◌, refl, sym, ◌∙◌}
+use mathlib.Core.Path.{refl, sym}
 use mathlib.Core.Bool.{true≢false}
 use native.Mathlib.Omega.{arith}
 use Rattle.labelling_rootings.specs.Among.{SomeRooting}
-use Rattle.labelling_rootings.proofs.Tried.{Tried, unlike-more, some-found}
+use Rattle.labelling_rootings.proofs.Tried.{unlike-more, some-found}
 use Rattle.labelling_rootings.proofs.some_rooting.Goals as goal
 
 pub returns-then-has_word-clause-answer : goal.returns-then-has_word-clause-answer

@@ -1,5 +1,4 @@
 -- `u_comes_first` meets its contract: what does not move all edges fixes one.
-use borrow.Author.Rules.{rules}
 use mathlib.Core.Path.{ap}
 use mathlib.Core.Bool.{not}
 use Rattle.lists.proofs.Tests.{not-true}

@@ -1,16 +1,10 @@
 -- `rootings_with` meets its contract. The loop's invariant: the count is that of the rootings 1..x.
-use borrow.Author.Rules.{rules}
-use mathlib.Core.Path.{◌≡◌, refl, ◌∙◌}
+use mathlib.Core.Path.{◌≡◌}
 use Prim.Native.Nat.{◌-◌}
-use native.Mathlib.Omega.{arith}
-use lib.ListN.{length}
 use Rattle.lists.specs.Ranges.{card}
-use Rattle.lists.proofs.Ranges.{card-most}
-use Rattle.diagrams.proofs.Checks.{accepts-mapped}
 use Rattle.words.specs.Order.{same}
 use Rattle.labelling.specs.Labelling.{word_of}
-use Rattle.labelling_rootings.specs.Among.{rootings_with}
-use Rattle.labelling_rootings.proofs.Tried.{Tried, card-more}
+use Rattle.labelling_rootings.proofs.Tried.{Tried}
 use Rattle.labelling_symmetries.proofs.rootings_with.Given as goal
 
 abbrev pub invariant-loop-x : goal.invariant-loop-x

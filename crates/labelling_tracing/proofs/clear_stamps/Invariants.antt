@@ -1,9 +1,6 @@
 -- `clear_stamps` meets its contract. The loop's invariant: the stamps of the edges 1..x are cleared.
-use borrow.Author.Rules.{rules}
-use mathlib.Core.Path.{refl}
 use Prim.Native.Nat.{◌-◌}
-use native.Mathlib.Omega.{arith}
-use Rattle.labelling_tracing.proofs.Clearing.{Cleared, cleared_more, cleared-all}
+use Rattle.labelling_tracing.proofs.Clearing.{Cleared}
 use Rattle.labelling_tracing.proofs.clear_stamps.Given as goal
 
 abbrev pub invariant-loop-x : goal.invariant-loop-x

@@ -1,13 +1,10 @@
 -- `follow_own` meets its contract. In the answers, h says that own has the item.
 use borrow.Author.Rules.{rules}
-use mathlib.Core.Path.{◌≡◌, refl, sym, ◌∙◌}
+use mathlib.Core.Path.{refl, sym, ◌∙◌}
 use mathlib.Core.Bool.{true≢false}
-use Prim.Native.Nat.{suc, ◌-◌, ◌<◌}
 use native.Mathlib.Omega.{arith}
-use lib.ListN.{length, get_or}
-use Rattle.labelling_tracing_events.proofs.Stamps.{stamped-below}
 use Rattle.labelling_tracing.proofs.Sofar.{sofar-begin, sofar-underway, sofar-event}
-use Rattle.labelling_tracing.proofs.Tracked.{Tracked, tracked-item, tracked-room, tracked-leaves, traced-end}
+use Rattle.labelling_tracing.proofs.Tracked.{tracked-item, tracked-room, tracked-leaves, traced-end}
 use Rattle.labelling_tracing.proofs.follow_own.Goals as goal
 
 pub loop-place-init : goal.loop-place-init

@@ -1,14 +1,9 @@
 -- `follow_own` meets its contract. The loop's invariant: the items found are own's, but for the last, and the labelling stands behind them.
 -- The measure is the room that is left for items.
-use borrow.Author.Rules.{rules}
-use mathlib.Core.Path.{◌≡◌, refl, sym, ◌∙◌}
-use mathlib.Core.Bool.{true≢false}
-use Prim.Native.Nat.{suc, ◌-◌, ◌<◌}
-use native.Mathlib.Omega.{arith}
-use lib.ListN.{length, get_or}
-use Rattle.labelling_tracing_events.proofs.Stamps.{stamped-below}
-use Rattle.labelling_tracing.proofs.Sofar.{sofar-begin, sofar-underway, sofar-event}
-use Rattle.labelling_tracing.proofs.Tracked.{Tracked, tracked-item, tracked-room, tracked-leaves, traced-end}
+use mathlib.Core.Path.{◌≡◌}
+use Prim.Native.Nat.{suc, ◌-◌}
+use lib.ListN.{length}
+use Rattle.labelling_tracing.proofs.Tracked.{Tracked}
 use Rattle.labelling_tracing.proofs.follow_own.Given as goal
 
 abbrev pub invariant-loop-place : goal.invariant-loop-place

@@ -1,11 +1,9 @@
 -- `own_word` meets its contract.
 use borrow.Author.Rules.{rules}
-use mathlib.Core.Path.{◌≡◌, refl, ◌∙◌}
-use mathlib.Core.List.{List}
-use Prim.Native.Nat.{ℕ, suc, ◌-◌, ◌≤◌}
+use mathlib.Core.Path.{refl}
 use native.Mathlib.Omega.{arith}
-use lib.ListN.{length, length-set}
-use Rattle.labelling_tracing.proofs.Sofar.{Filled, sofar-underway, filled-begin, filled-length, filled-room, filled_more, filled-end, wrote-first}
+use lib.ListN.{length-set}
+use Rattle.labelling_tracing.proofs.Sofar.{sofar-underway, filled-begin, filled-length, filled-room, filled_more, filled-end, wrote-first}
 use Rattle.labelling_tracing.proofs.own_word.Goals as goal
 
 pub loop-next-init : goal.loop-next-init

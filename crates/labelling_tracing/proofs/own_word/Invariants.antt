@@ -1,12 +1,10 @@
 -- `own_word` meets its contract. The loop's invariant: what is written so far begins the word, and the labelling stands behind it. The
 -- measure is the room that is left for items.
-use borrow.Author.Rules.{rules}
-use mathlib.Core.Path.{◌≡◌, refl, ◌∙◌}
+use mathlib.Core.Path.{◌≡◌}
 use mathlib.Core.List.{List}
-use Prim.Native.Nat.{ℕ, suc, ◌-◌, ◌≤◌}
-use native.Mathlib.Omega.{arith}
-use lib.ListN.{length, length-set}
-use Rattle.labelling_tracing.proofs.Sofar.{Filled, sofar-underway, filled-begin, filled-length, filled-room, filled_more, filled-end, wrote-first}
+use Prim.Native.Nat.{ℕ, suc, ◌-◌}
+use lib.ListN.{length}
+use Rattle.labelling_tracing.proofs.Sofar.{Filled}
 use Rattle.labelling_tracing.proofs.own_word.Given as goal
 
 abbrev pub invariant-loop-next : goal.invariant-loop-next

@@ -1,13 +1,11 @@
 -- `begin` meets its contract: the root is pushed, and the rest of its vertex as in F, where its black edge is another.
-use borrow.Author.Rules.{rules}
 use mathlib.Core.Path.{◌≡◌, sym, ap, ◌∙◌, subst}
 use mathlib.Core.Logic.{◌≢◌}
 use mathlib.Core.List.{List, [], ◌∷◌}
 use Prim.Native.Nat.{ℕ}
-use lib.ListN.{length}
 use Rattle.lists.specs.Lists.{at, Has}
 use Rattle.labelling_tracing_events.proofs.Stamps.{below-stamped}
-use Rattle.labelling_tracing_events.proofs.Underway.{edge-small, edge-stamp, root-new, did-U, did-T}
+use Rattle.labelling_tracing_events.proofs.Underway.{root-new, did-U, did-T}
 use Rattle.labelling_tracing_events.proofs.begin.Goals as goal
 
 -- the third edge of the root's vertex

@@ -1,16 +1,12 @@
 -- `event` meets its contract. The tests of the code are those of `move`: the popped edge's partner is itself, is labelled, or is fixed by
 -- the black list. In each answer e says what the popped edge is, f its partner, g the next edge round the partner's vertex, h the third.
-use borrow.Author.Rules.{rules}
 use mathlib.Core.Path.{◌≡◌, sym, ap, ◌∙◌, subst}
 use mathlib.Core.Logic.{◌≢◌}
 use mathlib.Core.List.{List, ◌∷◌}
-use Prim.Native.Nat.{ℕ, ◌≤◌, ◌<◌, ◌-◌}
+use Prim.Native.Nat.{ℕ}
 use native.Mathlib.Omega.{arith}
-use lib.ListN.{length, get_or}
+use lib.ListN.{get_or}
 use Rattle.lists.specs.Lists.{at, Has}
-use Rattle.lists.specs.Ranges.{OneTo}
-use Rattle.pending_ring.specs.Ring.{Ring}
-use Rattle.labelling_tracing_events.specs.Stamps.{Underway}
 use Rattle.labelling_tracing_events.proofs.Underway.{edge-small, edge-stamp, popped-edge, partner-edge, partner-pending, did-W, did-J, did-B, did-F, event-B-room, fork-room, fork-new}
 use Rattle.labelling_tracing_events.proofs.event.Goals as goal
 

@@ -1,15 +1,15 @@
 -- `write_list` meets its contract.
 use borrow.Author.Rules.{rules}
-use mathlib.Core.Path.{◌≡◌, refl, ◌∙◌}
-use mathlib.Core.List.{List, ◌++◌}
-use Prim.Native.Nat.{ℕ, ◌+◌, ◌-◌, ◌≤◌, ◌<◌}
+use mathlib.Core.Path.{refl, ◌∙◌}
+use mathlib.Core.List.{List}
+use Prim.Native.Nat.{ℕ, ◌+◌, ◌<◌}
 use native.Mathlib.Omega.{arith}
-use lib.ListN.{length, get_or, drop}
-use Rattle.lists.specs.Lists.{at, tabulate}
+use lib.ListN.{length, get_or}
+use Rattle.lists.specs.Lists.{at}
 use Rattle.lists.specs.Ranges.{OneTo}
 use Rattle.labelling.specs.Labelling.{relabel, edge_of}
 use Rattle.labelling_code.specs.Scratch.{LabelsHeld}
-use Rattle.labelling_arrays.proofs.Arrays.{seen, listed_more, listed-length}
+use Rattle.labelling_arrays.proofs.Arrays.{seen, listed_more}
 use Rattle.labelling_code.proofs.writing.write_list.Goals as goal
 
 -- the edge of the next label

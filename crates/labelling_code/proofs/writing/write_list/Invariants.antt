@@ -1,15 +1,11 @@
 -- `write_list` meets its contract. The loop's invariant: the entries of the labels 1..j are written.
-use borrow.Author.Rules.{rules}
-use mathlib.Core.Path.{◌≡◌, refl, ◌∙◌}
+use mathlib.Core.Path.{◌≡◌}
 use mathlib.Core.List.{List, ◌++◌}
-use Prim.Native.Nat.{ℕ, ◌+◌, ◌-◌, ◌≤◌, ◌<◌}
-use native.Mathlib.Omega.{arith}
-use lib.ListN.{length, get_or, drop}
+use Prim.Native.Nat.{ℕ, ◌-◌, ◌≤◌}
+use lib.ListN.{length, drop}
 use Rattle.lists.specs.Lists.{at, tabulate}
-use Rattle.lists.specs.Ranges.{OneTo}
 use Rattle.labelling.specs.Labelling.{relabel}
 use Rattle.labelling_code.specs.Scratch.{LabelsHeld}
-use Rattle.labelling_arrays.proofs.Arrays.{seen, listed_more, listed-length}
 use Rattle.labelling_code.proofs.writing.write_list.Given as goal
 
 abbrev pub invariant-loop-j : goal.invariant-loop-j

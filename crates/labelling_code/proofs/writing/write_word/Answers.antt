@@ -1,11 +1,8 @@
 -- `write_word` meets its contract.
 use borrow.Author.Rules.{rules}
-use mathlib.Core.Path.{◌≡◌, ◌∙◌}
-use mathlib.Core.List.{List}
-use Prim.Native.Nat.{ℕ, suc, ◌-◌, ◌≤◌}
 use native.Mathlib.Omega.{arith}
-use lib.ListN.{length, length-set}
-use Rattle.labelling_code.proofs.Sofar.{Filled, filled-begin, filled-length, filled-event, filled-room, filled_more, filled-end, filled-none-pending, wrote-first}
+use lib.ListN.{length-set}
+use Rattle.labelling_code.proofs.Sofar.{filled-begin, filled-length, filled-event, filled-room, filled_more, filled-end, filled-none-pending, wrote-first}
 use Rattle.labelling_code.proofs.writing.write_word.Goals as goal
 
 pub loop-next-init : goal.loop-next-init

@@ -1,12 +1,10 @@
 -- `write_word` meets its contract. The loop's invariant: what is written so far begins the word, and the labelling is under way behind it.
 -- The measure is the room that is left for items.
-use borrow.Author.Rules.{rules}
-use mathlib.Core.Path.{◌≡◌, ◌∙◌}
+use mathlib.Core.Path.{◌≡◌}
 use mathlib.Core.List.{List}
-use Prim.Native.Nat.{ℕ, suc, ◌-◌, ◌≤◌}
-use native.Mathlib.Omega.{arith}
-use lib.ListN.{length, length-set}
-use Rattle.labelling_code.proofs.Sofar.{Filled, filled-begin, filled-length, filled-event, filled-room, filled_more, filled-end, filled-none-pending, wrote-first}
+use Prim.Native.Nat.{ℕ, suc, ◌-◌}
+use lib.ListN.{length}
+use Rattle.labelling_code.proofs.Sofar.{Filled}
 use Rattle.labelling_code.proofs.writing.write_word.Given as goal
 
 abbrev pub invariant-loop-next : goal.invariant-loop-next
