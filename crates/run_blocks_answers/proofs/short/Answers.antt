@@ -4,16 +4,9 @@ use native.Mathlib.Nat.{div-lt_iff_lt-mul}
 use borrow.Author.Tests.{ltb-true, lt-ltb}
 use mathlib.Core.Path.{sym, ◌∙◌}
 use mathlib.Core.Bool.{true≢false}
-use Rattle.run_blocks_answers.proofs.short.Statement.{statement}
-use Rattle.run_blocks_answers.proofs.short.Tie as tie
+use Rattle.run_blocks_answers.proofs.short.Goals as goal
 
-div-result : tie.Need-nonzero-div-result
-div-result c = search rules
-
-returns : tie.Need-returns
+pub returns : goal.returns
 returns c =
     let d = div-lt_iff_lt-mul {k = c.args.each} {x = c.args.places} {y = c.args.rows} c.requires in
     (λ e. d.0 (ltb-true _ _ e), λ e l. true≢false (sym (lt-ltb _ _ (d.1 l)) ∙ e))
-
-pub short-spec : {M : Type 1} → statement M
-short-spec = tie.close (tie.spec div-result returns)
