@@ -1,5 +1,4 @@
 -- `given` meets its contract: the next position of the ticket's share is one of the size's, so that only 9 is refused; otherwise its diagram is written.
-use borrow.Author.Rules.{rules}
 use mathlib.Core.Path.{◌≡◌, refl}
 use mathlib.Core.Logic.{◌⊎◌, inl, inr, ⊎_elim}
 use mathlib.Core.Bool.{Bool, true, false, true≢false}
@@ -27,11 +26,7 @@ use Rattle.book.proofs.Partition.{held_in}
 use Rattle.book.proofs.ValidBook.{both_of}
 use Rattle.book.proofs.Accepted.{TicketGood, ticket-unfinished}
 use Rattle.book_standing.proofs.Found.{asked-good}
-use Rattle.book_decisions_take.proofs.given.Statement.{statement}
-use Rattle.book_decisions_take.proofs.given.Tie as tie
-use Rattle.book_decisions_take.proofs.given.Reads as reads
-use Rattle.book_decisions_take.proofs.given.Lts as lts
-use Rattle.listing_ranking.proofs.diagram_at.Reads as diagram-at-reads
+use Rattle.book_decisions_take.proofs.given.Goals as goal
 
 -- the test of the room that the lists have
 lists-hold-true : (n : ℕ) (a0 a1 aw : List ℕ) → ¬ Short n a0 a1 aw → lists_hold n (length a0) (length a1) (length aw) ≡ true
@@ -93,63 +88,12 @@ module _ (b : Book) (tick t n j p : ℕ) (e : b.size ≡ n) (a : AskPromise b ti
   given-at : (m : ℕ) → ¬ Short n a0 a1 aw → m ≡ length (word_at n p) → Written (diagram_at n p) (word_at n p) a0 a1 aw c0 c1 cw → TakePromise b tick t a0 a1 aw (taking.Given j p m) (ticked b tick) c0 c1 cw
   given-at m s l w = rw (l, ← e, q, a.0) (take-given b tick t a0 a1 aw a.1 (rw (← e) at s) (rw (← e, q, a.0) at w))
 
-diagram-at-requires : tie.Need-diagram-at-requires
-diagram-at-requires c κs = search rules
+pub returns-in-Refused : goal.returns-in-Refused
+returns-in-Refused c =
+    let g = c.in-Refused.ensures in
+    (λ b t e a q. refused-at b c.args.tick t _ _ _ e a q c.args.s0.now c.args.s1.now c.args.word.now _ g.0 g.1, tt)
 
-enum-known-k : tie.Need-enum-known-k
-enum-known-k c = search rules
-
-enum-known-m : tie.Need-enum-known-m
-enum-known-m c = search rules
-
-cast-t20 : tie.Need-overflow-cast-t20
-cast-t20 c = search rules
-
-same_length : tie.Need-same-length
-same_length c = search rules
-
-same-length-2 : tie.Need-same-length-2
-same-length-2 c = search rules
-
-same-length-3 : tie.Need-same-length-3
-same-length-3 c = search rules
-
-returns : tie.Need-returns
-returns c =
-    let d = c.before.before.before.before.before.before.before.before.before in
-    let s = d.before.before.before.before.before.before.before in
-    let g = rw c.before.k.given.1 at d.diagram-at.ensures in
-    (λ b t e a q. refused-at b s.args.tick t _ _ _ e a q s.args.s0.now s.args.s1.now s.args.word.now _ g.0 g.1, tt)
-
-same-length-4 : tie.Need-same-length-4
-same-length-4 c = search rules
-
-same-length-5 : tie.Need-same-length-5
-same-length-5 c = search rules
-
-same-length-6 : tie.Need-same-length-6
-same-length-6 c = search rules
-
-returns-2 : tie.Need-returns-2
-returns-2 c =
-    let d = c.before.before.before.before.before.before.before.before.before in
-    let s = d.before.before.before.before.before.before.before in
-    let g = rw c.before.m.given.1 at d.diagram-at.ensures in
-    (λ b t e a q. given-at b s.args.tick t _ _ _ e a q s.args.s0.now s.args.s1.now s.args.word.now _ g.2 g.3 g.4, tt)
-
-pub given-spec : {M : Type 1} → statement M
-given-spec =
-    tie.close
-    (tie.spec
-    diagram-at-requires
-    enum-known-k
-    enum-known-m
-    cast-t20
-    same_length
-    same-length-2
-    same-length-3
-    returns
-    same-length-4
-    same-length-5
-    same-length-6
-    returns-2)
+pub returns-in-Length : goal.returns-in-Length
+returns-in-Length c =
+    let g = c.in-Length.ensures in
+    (λ b t e a q. given-at b c.args.tick t _ _ _ e a q c.args.s0.now c.args.s1.now c.args.word.now _ g.2 g.3 g.4, tt)
