@@ -99,7 +99,12 @@ pub fn step(run: UptoRun, s0: &mut [u16], s1: &mut [u16], word: &mut [u16]) -> U
             run: empty(run.bound, 2, run.visits),
         };
     }
-    let size = size_of(next);
+    let items = next.items;
+    let size = size_of(Next {
+        shared: next.shared,
+        length: next.length,
+        items,
+    });
     if short(size as usize, s0.len(), s1.len(), word.len()) {
         return UptoStepped {
             answer: UptoStepping::Refused(9),
