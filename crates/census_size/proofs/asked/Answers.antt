@@ -1,6 +1,7 @@
 -- No byte asks for the summary; otherwise count decides of the size that the input names.
+use native.Mathlib.Omega.{arith}
 use Rattle.census_size.proofs.Sizes.{refusal-asked}
 use Rattle.census_size.proofs.asked.Goals as goal
 
 pub returns-in-Refused : goal.returns-in-Refused
-returns-in-Refused c = refusal-asked _ _ _ c.if-input-eq0.false c.named_size-size.ensures c.in-Refused.ensures
+returns-in-Refused c = refusal-asked _ _ _ (λ z. omega arith) c.named_size-size.ensures c.in-Refused.ensures
