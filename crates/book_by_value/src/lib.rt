@@ -1,5 +1,5 @@
 // The operations of the share book for a program that holds its book by value: the book stands in a local, is lent to the operation (crate
-// book_lent), and comes back with the answer. A function that lends a local struct is proved by hand, so that callers of these need no such proof.
+// book_lent), and comes back with the answer.
 #![tactic(auto)]
 
 ghost use Rattle.std.specs.Prelude.{◌≡◌};

@@ -1,3 +1,2 @@
-// Functions over a lent book, and functions that lend one, which the borrow checker leaves to a proof by hand. This crate has lemmas only:
-// a walk through such a function's code, once for every function of its form.
+// Functions over a lent book, and functions that lend one: the borrow checker walks through their code by itself, so no lemma is left to state here.
 #![tactic(auto)]
