@@ -17,7 +17,7 @@ use Rattle.words.specs.Word.{Pair, spells, spell}
 use Rattle.words.specs.Outputs.{overwrite, Short, Written}
 use Rattle.words.proofs.Outputs.{long_enough}
 use Rattle.words.proofs.Growing.{none≢some, cond-some}
-use Rattle.words_spelling_events.specs.States.{State, state_after, first_state}
+use Rattle.words_spelling_events.specs.States.{state_after, first_state}
 use Rattle.words_spelling_events.specs.Spelling.{SpellingRoom, SpellingState}
 use Rattle.words_spelling.proofs.Laws.{midway_end}
 use Rattle.listing.specs.Listing.{ways, completions, count}

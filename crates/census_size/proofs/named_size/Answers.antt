@@ -1,6 +1,5 @@
 -- An input of two bytes or three is their list; one of another length names no size of one digit or two.
-use borrow.Author.Rules.{rules}
-use Rattle.census_size.proofs.Sizes.{two-long, three-long, none_named}
+use Rattle.census_size.proofs.Sizes.{none_named}
 use Rattle.census_size.proofs.named_size.Goals as goal
 
 pub returns : goal.returns

@@ -1,7 +1,5 @@
 -- A byte that is no newline, and a byte below 1 or above 9, is in no input that names a size; the others are.
-use mathlib.Core.Path.{◌≡◌}
 use native.Mathlib.Omega.{arith}
-use borrow.Author.Rules.{rules}
 use Rattle.census_size.proofs.Sizes.{one-named, one_none}
 use Rattle.census_size.proofs.one_digit.Goals as goal
 

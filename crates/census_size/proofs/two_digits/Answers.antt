@@ -1,9 +1,6 @@
 -- Without the second digit the bytes name the tens, or nothing; then the second digit decides.
-use mathlib.Core.Path.{◌≡◌}
-use mathlib.Core.Logic.{⊎_elim}
 use native.Mathlib.Omega.{arith}
-use borrow.Author.Rules.{rules}
-use Rattle.census_size.proofs.Sizes.{named_small, two-named, two_none, two-without}
+use Rattle.census_size.proofs.Sizes.{two-named, two_none, two-without}
 use Rattle.census_size.proofs.two_digits.Goals as goal
 
 pub returns-then-tens-eq0 : goal.returns-then-tens-eq0

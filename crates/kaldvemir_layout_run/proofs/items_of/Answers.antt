@@ -1,9 +1,6 @@
 -- `items_of` copies the items out one by one.
-use mathlib.Core.Path.{◌≡◌, refl, sym, ◌∙◌, ap}
-use mathlib.Core.List.{◌++◌, append-nil}
-use Prim.Native.Nat.{ℕ, ◌+◌, ◌-◌, ◌≤◌}
 use native.Mathlib.Omega.{arith}
-use lib.ListN.{take, drop, length, replicate}
+use lib.ListN.{replicate}
 use borrow.Author.Rules.{rules}
 use Rattle.kaldvemir_layout.proofs.Rows.{copied-out}
 use Rattle.kaldvemir_layout_run.proofs.items_of.Goals as goal

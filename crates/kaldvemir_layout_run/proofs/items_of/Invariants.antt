@@ -1,11 +1,8 @@
 -- `items_of` copies the items out one by one.
-use mathlib.Core.Path.{◌≡◌, refl, sym, ◌∙◌, ap}
-use mathlib.Core.List.{◌++◌, append-nil}
-use Prim.Native.Nat.{ℕ, ◌+◌, ◌-◌, ◌≤◌}
-use native.Mathlib.Omega.{arith}
-use lib.ListN.{take, drop, length, replicate}
-use borrow.Author.Rules.{rules}
-use Rattle.kaldvemir_layout.proofs.Rows.{copied-out}
+use mathlib.Core.Path.{◌≡◌}
+use mathlib.Core.List.{◌++◌}
+use Prim.Native.Nat.{◌-◌, ◌≤◌}
+use lib.ListN.{take, drop, replicate}
 use Rattle.kaldvemir_layout_run.proofs.items_of.Given as goal
 
 abbrev pub invariant-loop-i : goal.invariant-loop-i

@@ -1,6 +1,6 @@
 -- `put_back` meets its contract: the two numbers and the items in their places.
 use Rattle.kaldvemir_layout_run.proofs.Rows.{run_row}
-use mathlib.Core.Path.{◌≡◌, refl, sym, ◌∙◌, ap}
+use mathlib.Core.Path.{◌∙◌}
 use borrow.Author.Rules.{rules}
 use Rattle.kaldvemir_layout_run.proofs.put_back.Goals as goal
 

@@ -1,9 +1,5 @@
 -- `put_items` copies the items in one by one.
-use mathlib.Core.Path.{◌≡◌, refl, sym, ◌∙◌, ap}
-use Prim.Native.Nat.{ℕ, ◌+◌, ◌-◌, ◌≤◌}
 use native.Mathlib.Omega.{arith}
-use lib.ListN.{length}
-use lib.Seq.{paste, paste-zero}
 use borrow.Author.Rules.{rules}
 use Rattle.kaldvemir_layout.proofs.Rows.{copied-in}
 use Rattle.kaldvemir_layout_run.proofs.put_items.Goals as goal

@@ -1,13 +1,8 @@
 -- `draw` writes the word and its diagram. The loop's invariant: what is written and drawn, and what is left, are as `Drawing` says.
-use borrow.Author.Rules.{rules}
-use mathlib.Core.Path.{◌≡◌, refl, ◌∙◌}
-use mathlib.Core.List.{List}
-use Prim.Native.Nat.{ℕ, ◌+◌, ◌<◌}
+use mathlib.Core.Path.{◌∙◌}
 use native.Mathlib.Omega.{arith}
-use lib.ListN.{length, length-set}
-use Rattle.words.specs.Word.{Pair}
+use lib.ListN.{length-set}
 use Rattle.listing_places_ways.proofs.Choices.{unranking-room}
-use Rattle.listing_unranking.specs.Drawing.{Drawing}
 use Rattle.listing_unranking.proofs.Drawing.{drawing-item, drawing-falls, drawing-more, drawing-end}
 use Rattle.listing_unranking.proofs.draw.Goals as goal
 

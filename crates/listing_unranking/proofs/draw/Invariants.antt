@@ -1,14 +1,10 @@
 -- `draw` writes the word and its diagram. The loop's invariant: what is written and drawn, and what is left, are as `Drawing` says.
-use borrow.Author.Rules.{rules}
-use mathlib.Core.Path.{◌≡◌, refl, ◌∙◌}
+use mathlib.Core.Path.{◌≡◌}
 use mathlib.Core.List.{List}
-use Prim.Native.Nat.{ℕ, ◌+◌, ◌<◌}
-use native.Mathlib.Omega.{arith}
-use lib.ListN.{length, length-set}
+use Prim.Native.Nat.{ℕ, ◌+◌}
+use lib.ListN.{length}
 use Rattle.words.specs.Word.{Pair}
-use Rattle.listing_places_ways.proofs.Choices.{unranking-room}
 use Rattle.listing_unranking.specs.Drawing.{Drawing}
-use Rattle.listing_unranking.proofs.Drawing.{drawing-item, drawing-falls, drawing-more, drawing-end}
 use Rattle.listing_unranking.proofs.draw.Given as goal
 
 abbrev pub invariant-loop-h : goal.invariant-loop-h

@@ -1,9 +1,5 @@
 -- `write_at` tells by the place whether the word begins with U or with T.
-use borrow.Author.Rules.{rules}
-use mathlib.Core.Path.{◌≡◌}
-use Prim.Native.Nat.{◌-◌}
 use native.Mathlib.Omega.{arith}
-use Rattle.listing.specs.Listing.{ways}
 use Rattle.listing_places.proofs.Places.{T-some}
 use Rattle.listing_unranking.proofs.Drawing.{rooted-U, rooted-T}
 use Rattle.listing_unranking.proofs.write_at.Goals as goal

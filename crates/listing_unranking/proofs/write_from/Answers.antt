@@ -1,7 +1,5 @@
 -- `write_from` writes the first item, draws it, and goes on from there.
-use borrow.Author.Rules.{rules}
-use mathlib.Core.Path.{refl, ◌∙◌}
-use lib.ListN.{length-set}
+use mathlib.Core.Path.{refl}
 use Rattle.listing_unranking.proofs.Drawing.{rooted-room, rooted-spells, rooted-drawing}
 use Rattle.listing_unranking.proofs.write_from.Goals as goal
 

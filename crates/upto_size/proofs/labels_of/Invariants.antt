@@ -1,9 +1,7 @@
 -- `labels_of` meets its contract. Invariant: the items before i give the labels counted so far, at most three each.
 use Prim.Native.Nat.{◌-◌}
-use native.Mathlib.Omega.{arith}
-use borrow.Author.Rules.{rules}
 use lib.ListN.{length}
-use Rattle.upto_size.proofs.Labels.{Counted, counted-empty, counted-first, counted_next, counted-all}
+use Rattle.upto_size.proofs.Labels.{Counted}
 use Rattle.upto_size.proofs.labels_of.Given as goal
 
 abbrev pub invariant-loop-i : goal.invariant-loop-i

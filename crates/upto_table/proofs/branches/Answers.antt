@@ -1,5 +1,4 @@
 -- `branches` answers the table's number, which is the number of branches (`found`).
-use borrow.Author.Rules.{rules}
 use Rattle.upto_table.proofs.Table.{found}
 use Rattle.upto_table.proofs.branches.Goals as goal
 

@@ -1,10 +1,7 @@
 -- `look` finds the number of a low row at its place, and for a high row finds the row and in it the number; past the table the number is 0.
-use mathlib.Core.Path.{sym, ◌∙◌}
+use mathlib.Core.Path.{◌∙◌}
 use native.Mathlib.Omega.{arith}
-use borrow.Author.Rules.{rules}
 use Rattle.upto_table_low.proofs.Flat.{low-at}
-use Rattle.listing_table_rows.proofs.Past.{above}
-use Rattle.upto_table.proofs.Table.{outside}
 use Rattle.upto_table.proofs.look.Goals as goal
 
 pub returns-then-h-lt6 : goal.returns-then-h-lt6

@@ -6,7 +6,7 @@ use native.Mathlib.Omega.{arith}
 use Rattle.words_spelling_events.proofs.Lists.{jump-item}
 use Rattle.upto_words.specs.Within.{FitsWithin}
 use Rattle.upto_table.proofs.Table.{branches-small}
-use Rattle.upto_visits.proofs.Passing.{height-some, passed-W, free-F, passed-F, free-B, passed-B, sum-B, item-J, from-J}
+use Rattle.upto_visits.proofs.Passing.{height-some, passed-W, passed-F, passed-B, sum-B, item-J, from-J}
 use Rattle.upto_visits.proofs.pass.Goals as goal
 
 popped : (height f x : ℕ) (w : List ℕ) → FitsWithin height f (x ∷ w) → height ≡ suc (height - 1)

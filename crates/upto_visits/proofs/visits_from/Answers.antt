@@ -1,8 +1,8 @@
-use Prim.Native.Nat.{◌+◌, ◌≤◌}
+use Prim.Native.Nat.{◌+◌}
 use native.Mathlib.Omega.{arith}
-use lib.ListN.{length, drop, drop_of_length-le}
+use lib.ListN.{drop, drop_of_length-le}
 use Rattle.words_spelling_events.proofs.Lists.{next-item}
-use Rattle.upto_visits.proofs.Passing.{passed-small, Visited, visited-more, visited-end}
+use Rattle.upto_visits.proofs.Passing.{passed-small, visited-more, visited-end}
 use Rattle.upto_visits.proofs.visits_from.Goals as goal
 
 pub pass-step-requires-clause-by_index : goal.pass-step-requires-clause-by_index

@@ -1,5 +1,4 @@
 -- `ways_b` looks up the block of B where there is a label free.
-use borrow.Author.Rules.{rules}
 use mathlib.Core.Path.{sym, ◌∙◌}
 use native.Mathlib.Omega.{arith}
 use Rattle.listing_places_ways.proofs.EventBlocks.{ways_b-few, ways_b-more}

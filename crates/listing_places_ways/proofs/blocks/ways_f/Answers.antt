@@ -1,5 +1,4 @@
 -- `ways_f` looks up the block of F where there are three labels free.
-use borrow.Author.Rules.{rules}
 use mathlib.Core.Path.{sym, ◌∙◌}
 use native.Mathlib.Omega.{arith}
 use Rattle.listing_places_ways.proofs.EventBlocks.{ways_f-few, ways_f-more}

@@ -5,7 +5,7 @@ use Prim.Native.Nat.{ℕ, suc, ◌-◌}
 use native.Mathlib.Omega.{arith}
 use Rattle.words.specs.Shape.{Fits}
 use Rattle.words_spelling_events.proofs.Lists.{jump-item}
-use Rattle.listing_places_ways.proofs.Passing.{height-some, passed-W, free-F, passed-F, free-B, passed-B, sum-B, item-J, from-J}
+use Rattle.listing_places_ways.proofs.Passing.{height-some, passed-W, passed-F, passed-B, sum-B, item-J, from-J}
 use Rattle.listing_places_ways.proofs.ranking.pass.Goals as goal
 
 popped : (height f x : ℕ) (w : List ℕ) → Fits height f (x ∷ w) → height ≡ suc (height - 1)

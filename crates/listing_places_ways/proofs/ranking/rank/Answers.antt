@@ -1,9 +1,9 @@
 -- `rank` adds up the blocks before each item. The loop's invariant, `Ranked`: what is added so far and the rank of the items left are the rank.
-use Prim.Native.Nat.{◌+◌, ◌-◌, ◌≤◌}
+use Prim.Native.Nat.{◌+◌}
 use native.Mathlib.Omega.{arith}
-use lib.ListN.{length, drop, drop_of_length-le}
+use lib.ListN.{drop, drop_of_length-le}
 use Rattle.words_spelling_events.proofs.Lists.{next-item}
-use Rattle.listing_places_ways.proofs.Passing.{rank-small, Ranked, ranked-more, ranked-end}
+use Rattle.listing_places_ways.proofs.Passing.{rank-small, ranked-more, ranked-end}
 use Rattle.listing_places_ways.proofs.ranking.rank.Goals as goal
 
 pub pass-block-requires-clause-by_index : goal.pass-block-requires-clause-by_index

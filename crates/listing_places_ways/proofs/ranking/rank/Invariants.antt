@@ -1,11 +1,8 @@
 -- `rank` adds up the blocks before each item. The loop's invariant, `Ranked`: what is added so far and the rank of the items left are the rank.
-use borrow.Author.Rules.{rules}
-use Prim.Native.Nat.{◌+◌, ◌-◌, ◌≤◌}
-use native.Mathlib.Omega.{arith}
-use lib.ListN.{length, drop, drop_of_length-le}
+use Prim.Native.Nat.{◌-◌, ◌≤◌}
+use lib.ListN.{length, drop}
 use Rattle.listing.specs.Ranking.{rank}
-use Rattle.words_spelling_events.proofs.Lists.{next-item}
-use Rattle.listing_places_ways.proofs.Passing.{rank-small, Ranked, ranked-more, ranked-end}
+use Rattle.listing_places_ways.proofs.Passing.{Ranked}
 use Rattle.listing_places_ways.proofs.ranking.rank.Given as goal
 
 abbrev pub invariant-loop-i : goal.invariant-loop-i

@@ -1,8 +1,7 @@
 -- `unrank` writes the items one by one. The loop's invariant: the word, the lent list and what is left to write are as `Unranking` says.
-use mathlib.Core.Path.{◌≡◌, refl, ◌∙◌}
+use mathlib.Core.Path.{◌∙◌}
 use native.Mathlib.Omega.{arith}
-use lib.ListN.{length, length-set}
-use Rattle.listing_places_ways.specs.Steps.{Unranking}
+use lib.ListN.{length-set}
 use Rattle.listing_places_ways.proofs.Choices.{unranking-room, unranking-more, unranking-end}
 use Rattle.listing_places_ways.proofs.unranking.unrank.Goals as goal
 

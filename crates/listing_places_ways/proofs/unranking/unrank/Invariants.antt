@@ -1,11 +1,9 @@
 -- `unrank` writes the items one by one. The loop's invariant: the word, the lent list and what is left to write are as `Unranking` says.
-use mathlib.Core.Path.{◌≡◌, refl, ◌∙◌}
+use mathlib.Core.Path.{◌≡◌}
 use mathlib.Core.List.{List}
 use Prim.Native.Nat.{ℕ, ◌+◌}
-use native.Mathlib.Omega.{arith}
-use lib.ListN.{length, length-set}
+use lib.ListN.{length}
 use Rattle.listing_places_ways.specs.Steps.{Unranking}
-use Rattle.listing_places_ways.proofs.Choices.{unranking-room, unranking-more, unranking-end}
 use Rattle.listing_places_ways.proofs.unranking.unrank.Given as goal
 
 abbrev pub invariant-loop-h : goal.invariant-loop-h
