@@ -44,6 +44,7 @@ fn moves_all(s0: &[u16]) -> bool
 }
 
 // Whether the root's word begins with T and some rooting's with U, so that this one comes before it: s0 moves the root and fixes some edge.
+#[tactic(auto, unfolding(crate::specs::Among::UComesFirst))]
 pub fn u_comes_first(s0: &[u16], root: u16) -> bool
     requires { Size s0.now × OneTo (length s0.now) root }
     ensures { (result ≡ true) ↔ UComesFirst s0.now root }
