@@ -15,7 +15,7 @@ use run_text::RowsAnswer;
 
 // How far a census has come: nothing is printed yet (stage 0), the header and so many rows (1), or all of it (2); how many of these rows' diagrams
 // are kept, and the run after them.
-#[derive(Drop)]
+#[derive(Clone, Copy)]
 pub struct Progress {
     pub size: u64,
     pub stage: u64,
