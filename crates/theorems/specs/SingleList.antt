@@ -1,7 +1,7 @@
 -- The single list of all sizes up to a bound, and the branch visits along it (request U1).
 --
 --   upto n, total n, word_upto n p    the list, how many words it has, and its word at place p (crate upto, Upto)
---   sizeOf w, of_size m ws            the size of the diagram of w, and the words of ws that have size m
+--   size_of w, of_size m ws            the size of the diagram of w, and the words of ws that have size m
 --   visits n p                       the visits at place p (crate upto, Visits)
 --   BranchesAt n p us                us holds, in dictionary order and each once, the non-empty proper beginnings of the first p words
 --   SingleList n, VisitsAre n        the theorems
