@@ -3,7 +3,7 @@
 #![tactic(auto)]
 
 mod given;
-mod words;
+mod word_calls;
 
 use console_commands::arguments::entries_of;
 use console_replies::Reply;
@@ -20,17 +20,17 @@ fn on_words(
 ) -> Reply {
     let list = entries_of(entries, values, 1);
     match letter {
-        b'a' => words::diagram_at(values[1], values[2], s0, s1, word),
-        b'd' => words::read(list, s0, s1),
-        b'e' => words::kept_count(values[1]),
-        b'h' => words::sheet(list, values, s0),
-        b'l' => words::lesser(list, entries_of(entries, values, 2), s0),
-        b'm' => words::reached(list, bytes),
-        b'n' => words::count(values[1]),
-        b'o' => words::row(values[1], values[2], bytes),
-        b't' => words::letters(list, bytes),
-        b'y' => words::summary(bytes),
-        _ => words::walk(values[1], s0),
+        b'a' => word_calls::diagram_at(values[1], values[2], s0, s1, word),
+        b'd' => word_calls::read(list, s0, s1),
+        b'e' => word_calls::kept_count(values[1]),
+        b'h' => word_calls::sheet(list, values, s0),
+        b'l' => word_calls::lesser(list, entries_of(entries, values, 2), s0),
+        b'm' => word_calls::reached(list, bytes),
+        b'n' => word_calls::count(values[1]),
+        b'o' => word_calls::row(values[1], values[2], bytes),
+        b't' => word_calls::letters(list, bytes),
+        b'y' => word_calls::summary(bytes),
+        _ => word_calls::walk(values[1], s0),
     }
 }
 

@@ -2,9 +2,9 @@
 // bound as 54 and its visits, and the book as 100. Each calls the function that callers in C have. The output lists are as long as the rooms.
 #![tactic(auto)]
 
-mod book;
+mod all_sizes;
+mod book_calls;
 mod run;
-mod upto;
 
 use console_replies::Reply;
 
@@ -21,13 +21,13 @@ fn on_book(
     let b = values[2];
     let c = values[3];
     match letter {
-        b'C' => book::claim(book, a, b, c),
-        b'F' => book::release(book, a, b),
-        b'O' => book::open(book, a, b),
-        b'P' => book::commit(book, a, b, c),
-        b'Q' => book::commit_range(book, a, b, c, values[4]),
-        b'R' => book::report(book),
-        _ => book::take(book, a, b, s0, s1, word),
+        b'C' => book_calls::claim(book, a, b, c),
+        b'F' => book_calls::release(book, a, b),
+        b'O' => book_calls::open(book, a, b),
+        b'P' => book_calls::commit(book, a, b, c),
+        b'Q' => book_calls::commit_range(book, a, b, c, values[4]),
+        b'R' => book_calls::report(book),
+        _ => book_calls::take(book, a, b, s0, s1, word),
     }
 }
 
@@ -51,10 +51,10 @@ pub fn on_state(
         b'B' => run::begin(run, rows),
         b'L' => run::list(run, rows, s0, s1, words, lengths),
         b'M' => run::list_marked(run, rows, s0, s1, words, lengths, marks),
-        b'N' => upto::next(upto, visits, s0, s1, words),
+        b'N' => all_sizes::next(upto, visits, s0, s1, words),
         b'S' => run::step(run, s0, s1, words),
-        b'U' => upto::begin(upto, visits, rows),
-        b'V' => upto::set_visits(visits, rows),
+        b'U' => all_sizes::begin(upto, visits, rows),
+        b'V' => all_sizes::set_visits(visits, rows),
         _ => on_book(letter, values, book, s0, s1, words),
     }
 }

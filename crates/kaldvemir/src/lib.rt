@@ -4,10 +4,10 @@
 // passes on the promise of the operation.
 #![tactic(auto)]
 
+pub mod all_sizes;
 pub mod books;
 pub mod given;
 pub mod listed;
 pub mod runs;
 pub mod sheets;
 pub mod spelling;
-pub mod upto;

@@ -2,10 +2,10 @@
 // kaldvemir's function of the same name and module, and promises the same.
 #![tactic(auto)]
 
+pub mod all_sizes;
 pub mod books;
 pub mod given;
 pub mod listed;
 pub mod runs;
 pub mod sheets;
 pub mod spelling;
-pub mod upto;

@@ -3,8 +3,8 @@ use mathlib.Core.List.{[], ◌∷◌}
 use native.Mathlib.Omega.{arith}
 use borrow.Author.Rules.{rules}
 use Rattle.census_summary.proofs.Lines.{behind-within}
-use Rattle.console_diagrams.proofs.words.summary.Statement.{statement}
-use Rattle.console_diagrams.proofs.words.summary.Tie as tie
+use Rattle.console_diagrams.proofs.word_calls.summary.Statement.{statement}
+use Rattle.console_diagrams.proofs.word_calls.summary.Tie as tie
 
 error-requires : tie.Need-error-requires
 error-requires c κs = search rules

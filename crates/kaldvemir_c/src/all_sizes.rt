@@ -16,7 +16,7 @@ pub extern "C" fn kaldvemir_upto_begin(bound: u64, run: &mut [u16; 54], visits: 
         × (run.new ≡ upto_begin_numbers a next run.old)
         × (visits.new ≡ upto_begin_visits a next visits.old) }
 {
-    kaldvemir::upto::kaldvemir_upto_begin(bound, run, visits)
+    kaldvemir::all_sizes::kaldvemir_upto_begin(bound, run, visits)
 }
 
 #[unsafe(no_mangle)]
@@ -37,5 +37,5 @@ pub extern "C" fn kaldvemir_upto_step(
         × (visits.new ≡ next.visits)
         × (run.new ≡ upto_numbers next) }
 {
-    kaldvemir::upto::kaldvemir_upto_step(run, visits, s0, s1, word, size, length)
+    kaldvemir::all_sizes::kaldvemir_upto_step(run, visits, s0, s1, word, size, length)
 }

@@ -1,6 +1,6 @@
 // The commands on the run through all sizes up to a bound.
 use console_replies::{Reply, done, placed};
-use kaldvemir::upto::{kaldvemir_upto_begin, kaldvemir_upto_step};
+use kaldvemir::all_sizes::{kaldvemir_upto_begin, kaldvemir_upto_step};
 
 pub fn begin(run: &mut [u16; 54], visits: &mut u64, bound: u64) -> Reply {
     done(kaldvemir_upto_begin(bound, run, visits))
