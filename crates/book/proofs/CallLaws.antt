@@ -7,15 +7,15 @@ use Prim.Native.Nat.{ℕ, zero, suc, ◌+◌, ◌≤◌, ◌<◌}
 use native.Mathlib.Omega.{arith}
 use lib.Dec.{eqb, leb, ltb}
 use lib.ListN.{length}
+use Rattle.std.specs.Prelude.{Result, Ok, Err}
 use Rattle.lists.specs.Lists.{at}
 use Rattle.lists.specs.Ranges.{OneTo}
 use Rattle.lists.proofs.Tests.{eqb-eq, eqb-ne, eqb-true, same?, lt?, lt-true, lt-false}
 use Rattle.listing.specs.Position.{word_at}
+use Rattle.refusals.specs.declared.Refusal.{Refusal}
+use Rattle.refusals.specs.Named.{answered}
 use Rattle.book.specs.declared.types.Book.{Book}
-use Rattle.book.specs.declared.types.Taking.{Taking}
-use Rattle.book.specs.declared.types.Taking.TheVariants as taking
-use Rattle.book.specs.declared.types.Committing.{Committing}
-use Rattle.book.specs.declared.types.Committing.TheVariants as committing
+use Rattle.book.specs.declared.types.Taken.{Taken}
 use Rattle.book.specs.Shares.{first, last, next, ticket, expiry, finished, holder}
 use Rattle.book.specs.Calls.{unless, entered, ticked, claim_number, claim_book, due, lists_hold, take_number, take_answer, take_book, commit_number, commit_answer, commit_book, book_moved_on, moved_to, release_number, release_book, ticket_number}
 use Rattle.book.proofs.ValidBook.{ValidBook, Long, Fitting, entered-valid, entered-long, entered-next, other-next, ticked-valid}
@@ -136,7 +136,7 @@ module _ (n k : ℕ) (b : Book) (C : List ℕ) (L : Ledger n k b C) where
 -- ---- what an answer tells
 
 module _ (b : Book) where
-  pub committed-number : (tick t p : ℕ) → commit_answer b tick t p ≡ committing.Committed → commit_number b tick t p ≡ 0
+  pub committed-number : (tick t p : ℕ) → commit_answer b tick t p ≡ Ok tt → commit_number b tick t p ≡ 0
   unfolding commit_answer
   committed-number tick t p e = go (same? (commit_number b tick t p) 0)
     where
@@ -145,19 +145,20 @@ module _ (b : Book) where
       go (inr q) = absurd (let r = rw (eqb-ne _ _ q) at e in let z : ◌≡◌ {A = ℕ} 0 1 = cc in omega arith)
 
   -- an accepted take: its ticket is good, the lists are long enough, and it gives the share's next position
-  pub record TakeGood (tick t l0 l1 lw j p m : ℕ) : Type 0 where
+  pub record TakeGood (tick t l0 l1 lw : ℕ) (g : Taken) : Type 0 where
     pub number : take_number b tick t l0 l1 lw ≡ 0
     pub good : TicketGood b tick t
-    pub share-is : j ≡ holder b t
-    pub position-is : p ≡ next b (holder b t)
-    pub length_is : m ≡ length (word_at b.size (next b (holder b t)))
+    pub share-is : g.share ≡ holder b t
+    pub position-is : g.position ≡ next b (holder b t)
+    pub length_is : g.length ≡ length (word_at b.size (next b (holder b t)))
 
-  pub take-good : (tick t l0 l1 lw j p m : ℕ) → take_answer b tick t l0 l1 lw ≡ taking.Given j p m → TakeGood tick t l0 l1 lw j p m
+  pub take-good : (tick t l0 l1 lw : ℕ) (g : Taken) → take_answer b tick t l0 l1 lw ≡ Ok g → TakeGood tick t l0 l1 lw g
   unfolding take_answer due
-  take-good tick t l0 l1 lw j p m e = go (same? (take_number b tick t l0 l1 lw) 0)
+  take-good tick t l0 l1 lw g e = go (same? (take_number b tick t l0 l1 lw) 0)
     where
-      go : (take_number b tick t l0 l1 lw ≡ 0) ⊎ (take_number b tick t l0 l1 lw ≢ 0) → TakeGood tick t l0 l1 lw j p m
+      go : (take_number b tick t l0 l1 lw ≡ 0) ⊎ (take_number b tick t l0 l1 lw ≢ 0) → TakeGood tick t l0 l1 lw g
       go (inl q) =
           let r = rw (eqb-eq _ _ q) at e in
-          record { number = q; good = (ticket-good b tick t (unless (lists_hold b.size l0 l1 lw) 9 0) (unfold take_number in q)).0; share-is = cc; position-is = cc; length_is = cc }
+          let d : ◌≡◌ {A = Taken} (record { share = holder b t; position = next b (holder b t); length = length (word_at b.size (next b (holder b t))) }) g = cc in
+          record { number = q; good = (ticket-good b tick t (unless (lists_hold b.size l0 l1 lw) 9 0) (unfold take_number in q)).0; share-is = sym (ap (λ (x : Taken). x.share) d); position-is = sym (ap (λ (x : Taken). x.position) d); length_is = sym (ap (λ (x : Taken). x.length) d) }
       go (inr q) = absurd (let r = rw (eqb-ne _ _ q) at e in let z : ◌≡◌ {A = ℕ} 0 1 = cc in omega arith)

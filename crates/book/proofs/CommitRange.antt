@@ -8,11 +8,13 @@ use Prim.Native.Nat.{ℕ, zero, suc, ◌+◌, ◌-◌, ◌^◌, ◌≤◌, ◌<�
 use native.Mathlib.Omega.{arith}
 use lib.Dec.{eqb, leb, ltb}
 use lib.Seq.{set-set}
+use Rattle.std.specs.Prelude.{Ok, Err}
 use Rattle.lists.specs.Lists.{at, put}
 use Rattle.lists.specs.Ranges.{OneTo, stretch}
 use Rattle.lists.proofs.Tests.{eqb-eq, eqb-ne, eqb-true, eqb_same, le-true, le-false, leb-true, lt-true, lt-false, same?, lt?, cond-all}
 use Rattle.book.specs.declared.types.Book.{Book}
-use Rattle.book.specs.declared.types.Committing.TheVariants as committing
+use Rattle.refusals.specs.declared.Refusal.{Refusal}
+use Rattle.refusals.specs.Named.{named}
 use Rattle.book.specs.Shares.{first, last, next, ticket, expiry, finished, holder, lapsed}
 use Rattle.book.specs.Valid.{valid}
 use Rattle.book.specs.Calls.{unless, not, entered, tick_in, ticket_number, due, moved_to, book_moved_on, commit_number, commit_book, commits_number, commits_book, positions, commit_range_number, commit_range_answer, commit_range_book, range_number}
@@ -310,7 +312,7 @@ module _ (b : Book) (tick t p q : ℕ) where
 
   -- a range that is refused, and one that is not
   pub range-refused : (k : ℕ) → k ≢ 0 → commit_range_number b tick t p q ≡ k
-      → (committing.Refused k ≡ commit_range_answer b tick t p q) × (b ≡ commit_range_book b tick t p q)
+      → (Err (named k) ≡ commit_range_answer b tick t p q) × (b ≡ commit_range_book b tick t p q)
   unfolding commit_range_answer commit_range_book
   range-refused k n e = rw (e, eqb-ne _ _ n) (refl, refl)
 
@@ -320,7 +322,7 @@ module _ (b : Book) (tick t p q : ℕ) where
     pub names : p ≡ next b (holder b t)
     pub ordered : p ≤ q
     pub within : q ≤ last b.size b.shares (holder b t)
-    pub answered : committing.Committed ≡ commit_range_answer b tick t p q
+    pub answered : Ok tt ≡ commit_range_answer b tick t p q
     pub left : moved_to b tick (holder b t) (suc q) ≡ commit_range_book b tick t p q
 
   pub range-good : Long b → commit_range_number b tick t p q ≡ 0 → RangeGood
@@ -346,7 +348,7 @@ module _ (b : Book) (tick t p q : ℕ) where
           → moved_to b tick (holder b t) (suc q) ≡ commits_book b tick t (stretch p (suc (q - p)))
       moved G d l u = rw d (ap (λ (x : ℕ). moved_to b tick (holder b t) (suc x)) (omega arith) ∙ sym (stretch-within tick t (q - next b (holder b t)) b L G (omega arith)).1)
 
-  pub range-committed : commit_range_answer b tick t p q ≡ committing.Committed → commit_range_number b tick t p q ≡ 0
+  pub range-committed : commit_range_answer b tick t p q ≡ Ok tt → commit_range_number b tick t p q ≡ 0
   unfolding commit_range_answer
   range-committed e = go (same? (commit_range_number b tick t p q) 0)
     where

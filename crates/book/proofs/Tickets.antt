@@ -5,11 +5,11 @@ use mathlib.Core.Bool.{Bool, true, false, cond}
 use Prim.Native.Nat.{ℕ, zero, suc, ◌+◌, ◌≤◌, ◌<◌}
 use native.Mathlib.Omega.{arith}
 use lib.Dec.{eqb, leb, ltb}
+use Rattle.std.specs.Prelude.{Ok}
 use Rattle.lists.specs.Lists.{at}
 use Rattle.lists.specs.Ranges.{OneTo}
 use Rattle.lists.proofs.Tests.{eqb-eq, eqb-ne, leb-true, same?}
 use Rattle.book.specs.declared.types.Book.{Book}
-use Rattle.book.specs.declared.types.Releasing.TheVariants as releasing
 use Rattle.book.specs.Shares.{next, ticket, expiry, finished, standing, holder, lapsed}
 use Rattle.book.specs.Calls.{unless, entered, ticked, claim_number, claim_book, take_number, take_book, commit_number, commit_book, book_moved_on, moved_to, release_number, release_answer, release_book, due}
 use Rattle.book.proofs.ValidBook.{ValidBook, Long, entered-ticket, other-ticket}
@@ -146,7 +146,7 @@ module _ (b : Book) (tick t : ℕ) where
   unfolding lapsed
   not-lapsed e T = let x = leb-true (expiry b (holder b t)) tick e in let y = T.unlapsed in omega arith
 
-  pub released-good : release_answer b tick t ≡ releasing.Released → TicketGood b tick t
+  pub released-good : release_answer b tick t ≡ Ok tt → TicketGood b tick t
   unfolding release_answer
   released-good e = go (same? (release_number b tick t) 0)
     where

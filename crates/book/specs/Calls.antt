@@ -3,7 +3,7 @@
 --
 --   open_number ..                  the number of the first condition that applies to an open, 0 where none does; so for claim, take, commit
 --                                   and release
---   open_answer ..                  the answer of an open: accepted with its values, or refused with that number; so for the others and the
+--   open_answer ..                  the answer of an open: accepted with its values, or the refusal of that number (refusals, Named); so for the others and the
 --                                   report
 --   open_book ..                    the book that an open leaves; so for claim, take, commit and release. The report alters nothing
 --   opened n k                      the book of size n in k shares, each at its first position, without tickets
@@ -23,26 +23,19 @@
 --   positions p q                   the positions p, p + 1, .., q
 --   commit_range_number ..          a range of commits: its number, its answer and the book that it leaves, as above
 --   range_number b t p q            the same number in closed form, where the ticket is good (theorems, BookNumbers)
-use Rattle.std.specs.Prelude.{◌≡◌, Bool, true, false, cond, List, [], ◌∷◌, ℕ, zero, suc, ◌+◌, ◌-◌, ◌^◌, eqb, leb, ltb, length, replicate}
+use Rattle.std.specs.Prelude.{◌≡◌, Bool, true, false, cond, List, [], ◌∷◌, ℕ, zero, suc, ◌+◌, ◌-◌, ◌^◌, eqb, leb, ltb, length, replicate, Result, Ok, Err}
 use Rattle.lists.specs.Lists.{at, put, tabulate}
 use Rattle.lists.specs.Ranges.{stretch}
 use Rattle.words.specs.Outputs.{overwrite}
 use Rattle.words.specs.Word.{Pair}
 use Rattle.listing.specs.Position.{word_at}
 use Rattle.listing.specs.Diagrams.{diagram_at}
+use Rattle.refusals.specs.declared.Refusal.{Refusal}
+use Rattle.refusals.specs.declared.Refusal.TheVariants as refusal
+use Rattle.refusals.specs.Named.{answered}
 use Rattle.book.specs.declared.types.Book.{Book}
-use Rattle.book.specs.declared.types.Opening.{Opening}
-use Rattle.book.specs.declared.types.Opening.TheVariants as opening
-use Rattle.book.specs.declared.types.Claiming.{Claiming}
-use Rattle.book.specs.declared.types.Claiming.TheVariants as claiming
-use Rattle.book.specs.declared.types.Taking.{Taking}
-use Rattle.book.specs.declared.types.Taking.TheVariants as taking
-use Rattle.book.specs.declared.types.Committing.{Committing}
-use Rattle.book.specs.declared.types.Committing.TheVariants as committing
-use Rattle.book.specs.declared.types.Releasing.{Releasing}
-use Rattle.book.specs.declared.types.Releasing.TheVariants as releasing
-use Rattle.book.specs.declared.types.Reporting.{Reporting}
-use Rattle.book.specs.declared.types.Reporting.TheVariants as reporting
+use Rattle.book.specs.declared.types.Taken.{Taken}
+use Rattle.book.specs.declared.types.Progress.{Progress}
 use Rattle.book.specs.Shares.{first, last, next, finished, committed, complete, holder, lapsed}
 use Rattle.book.specs.Valid.{both, either, among, valid}
 pub use Rattle.book_connectives.specs.Connectives.{unless, not}
@@ -64,8 +57,8 @@ opened n k = record {
   expiry = replicate 32 0;
 }
 
-unfoldable pub open_answer : ℕ → ℕ → Opening
-open_answer n k = cond (eqb (open_number n k) 0) opening.Opened (opening.Refused (open_number n k))
+unfoldable pub open_answer : ℕ → ℕ → Result (Unit {0}) Refusal
+open_answer n k = answered (open_number n k) tt
 
 unfoldable pub open_book : Book → ℕ → ℕ → Book
 open_book b n k = cond (eqb (open_number n k) 0) (opened n k) b
@@ -107,8 +100,8 @@ claim_number b tick j len =
     (unless (not (held b j tick)) 56
     (unless (ltb b.issued 65535) 57 0))))))
 
-unfoldable pub claim_answer : Book → ℕ → ℕ → ℕ → Claiming
-claim_answer b tick j len = cond (eqb (claim_number b tick j len) 0) (claiming.Ticket (suc b.issued)) (claiming.Refused (claim_number b tick j len))
+unfoldable pub claim_answer : Book → ℕ → ℕ → ℕ → Result ℕ Refusal
+claim_answer b tick j len = answered (claim_number b tick j len) (suc b.issued)
 
 unfoldable pub claim_book : Book → ℕ → ℕ → ℕ → Book
 claim_book b tick j len = cond (eqb (claim_number b tick j len) 0) (entered b tick (suc b.issued) j (next b j) (suc b.issued) (tick + len)) b
@@ -135,11 +128,9 @@ lists_hold n l0 l1 lw = both (leb n l0) (both (leb n l1) (leb (suc n) lw))
 unfoldable pub take_number : Book → ℕ → ℕ → ℕ → ℕ → ℕ → ℕ
 take_number b tick t l0 l1 lw = ticket_number b tick t (unless (lists_hold b.size l0 l1 lw) 9 0)
 
-unfoldable pub take_answer : Book → ℕ → ℕ → ℕ → ℕ → ℕ → Taking
+unfoldable pub take_answer : Book → ℕ → ℕ → ℕ → ℕ → ℕ → Result Taken Refusal
 take_answer b tick t l0 l1 lw =
-    cond (eqb (take_number b tick t l0 l1 lw) 0)
-    (taking.Given (holder b t) (due b t) (length (word_at b.size (due b t))))
-    (taking.Refused (take_number b tick t l0 l1 lw))
+    answered (take_number b tick t l0 l1 lw) (record { share = holder b t; position = due b t; length = length (word_at b.size (due b t)) })
 
 unfoldable pub take_book : Book → ℕ → ℕ → ℕ → ℕ → ℕ → Book
 take_book b tick t l0 l1 lw = cond (eqb (take_number b tick t l0 l1 lw) 0) (ticked b tick) b
@@ -153,8 +144,8 @@ take_list b tick t l0 l1 lw x a = cond (eqb (take_number b tick t l0 l1 lw) 0) (
 unfoldable pub commit_number : Book → ℕ → ℕ → ℕ → ℕ
 commit_number b tick t p = ticket_number b tick t (unless (eqb p (due b t)) 60 0)
 
-unfoldable pub commit_answer : Book → ℕ → ℕ → ℕ → Committing
-commit_answer b tick t p = cond (eqb (commit_number b tick t p) 0) committing.Committed (committing.Refused (commit_number b tick t p))
+unfoldable pub commit_answer : Book → ℕ → ℕ → ℕ → Result (Unit {0}) Refusal
+commit_answer b tick t p = answered (commit_number b tick t p) tt
 
 -- the share goes on at p; past its last position its ticket ends
 unfoldable pub moved_to : Book → ℕ → ℕ → ℕ → Book
@@ -191,9 +182,9 @@ positions p q = stretch p (suc q - p)
 unfoldable pub commit_range_number : Book → ℕ → ℕ → ℕ → ℕ → ℕ
 commit_range_number b tick t p q = cond (leb p q) (commits_number b tick t (positions p q)) (ticket_number b tick t 60)
 
-unfoldable pub commit_range_answer : Book → ℕ → ℕ → ℕ → ℕ → Committing
+unfoldable pub commit_range_answer : Book → ℕ → ℕ → ℕ → ℕ → Result (Unit {0}) Refusal
 commit_range_answer b tick t p q =
-    cond (eqb (commit_range_number b tick t p q) 0) committing.Committed (committing.Refused (commit_range_number b tick t p q))
+    answered (commit_range_number b tick t p q) tt
 
 unfoldable pub commit_range_book : Book → ℕ → ℕ → ℕ → ℕ → Book
 commit_range_book b tick t p q = cond (eqb (commit_range_number b tick t p q) 0) (commits_book b tick t (positions p q)) b
@@ -208,13 +199,13 @@ range_number b t p q = unless (leb p q) 60 (unless (eqb p (due b t)) 60 (unless 
 unfoldable pub release_number : Book → ℕ → ℕ → ℕ
 release_number b tick t = ticket_number b tick t 0
 
-unfoldable pub release_answer : Book → ℕ → ℕ → Releasing
-release_answer b tick t = cond (eqb (release_number b tick t) 0) releasing.Released (releasing.Refused (release_number b tick t))
+unfoldable pub release_answer : Book → ℕ → ℕ → Result (Unit {0}) Refusal
+release_answer b tick t = answered (release_number b tick t) tt
 
 unfoldable pub release_book : Book → ℕ → ℕ → Book
 release_book b tick t = cond (eqb (release_number b tick t) 0) (entered b tick b.issued (holder b t) (due b t) 0 0) b
 
 -- ---- report, the progress: 50; it alters nothing
 
-unfoldable pub report_answer : Book → Reporting
-report_answer b = cond (valid b) (reporting.Progress (committed b) (complete b)) (reporting.Refused 50)
+unfoldable pub report_answer : Book → Result Progress Refusal
+report_answer b = cond (valid b) (Ok (record { committed = committed b; complete = complete b })) (Err refusal.BookNotValid)

@@ -4,8 +4,4 @@
 
 pub mod types;
 
-pub use types::{
-    Book, Change, ClaimChoice, ClaimDone, Claiming, CommitChoice, CommitDone, Committing, Heads,
-    OpenDone, Opening, ReleaseChoice, ReleaseDone, Releasing, Reporting, TakeChoice, TakeDone,
-    Taking,
-};
+pub use types::{Book, Change, Choice, Done, Heads, Progress, Taken};

@@ -1,4 +1,7 @@
-// The share book, what its operations answer, and what they alter.
+// The share book, what its operations answer, and what they alter. An open makes a new lease table; a claim acquires the lease of a share, and
+// answers the ticket, which is the lease's fencing token; a take reads the next unit of work under a live lease; a commit records that it is
+// finished; a release gives a live lease back; a report tells the progress.
+use refusals::Refusal;
 
 // A book is a lease table: it divides the positions of one size among 1 to 32 shares (shards), each of which one session at a time may
 // hold. Entry j - 1 of each list is share j's; unused entries are 0.
@@ -43,104 +46,32 @@ pub enum Change {
     },
 }
 
-// An open makes a new lease table, in which no share is held.
-#[derive(Drop)]
-pub enum Opening {
-    Opened,
-    Refused(u16),
+// What a take answers: the unit of work that is due under a live lease, that is the share, its next position, and the length of the word written.
+#[derive(Clone, Copy)]
+pub struct Taken {
+    pub share: u64,
+    pub position: u64,
+    pub length: u64,
 }
 
-// A claim acquires the lease of a share: its ticket is the lease's fencing token.
-#[derive(Drop)]
-pub enum Claiming {
-    Ticket(u64),
-    Refused(u16),
+// What a report answers: how many positions are finished, and whether all are.
+#[derive(Clone, Copy)]
+pub struct Progress {
+    pub committed: u64,
+    pub complete: bool,
 }
 
-// A take reads the next unit of work of a share under a live lease.
+// What an operation on a book by value hands back: its answer, and the book that the call leaves. The book is not inside the Result, because a
+// refused call leaves one too: the book as it was (specs/Calls, claim_book and the like).
 #[derive(Drop)]
-pub enum Taking {
-    Given {
-        share: u64,
-        position: u64,
-        length: u64,
-    },
-    Refused(u16),
-}
-
-// A commit records, under a live lease, that a position is finished.
-#[derive(Drop)]
-pub enum Committing {
-    Committed,
-    Refused(u16),
-}
-
-// A release gives a live lease back.
-#[derive(Drop)]
-pub enum Releasing {
-    Released,
-    Refused(u16),
-}
-
-// A report tells the progress: how many positions are finished, and whether all are.
-#[derive(Drop)]
-pub enum Reporting {
-    Progress { committed: u64, complete: bool },
-    Refused(u16),
-}
-
-// What the operations on a book by value hand back: the answer and the book that the call leaves.
-#[derive(Drop)]
-pub struct OpenDone {
-    pub answer: Opening,
-    pub book: Book,
-}
-
-#[derive(Drop)]
-pub struct ClaimDone {
-    pub answer: Claiming,
-    pub book: Book,
-}
-
-#[derive(Drop)]
-pub struct TakeDone {
-    pub answer: Taking,
-    pub book: Book,
-}
-
-#[derive(Drop)]
-pub struct CommitDone {
-    pub answer: Committing,
-    pub book: Book,
-}
-
-#[derive(Drop)]
-pub struct ReleaseDone {
-    pub answer: Releasing,
+pub struct Done<T> {
+    pub answer: Result<T, Refusal>,
     pub book: Book,
 }
 
 // What is decided on the lent parts of a book: the answer, and what the call alters.
 #[derive(Drop)]
-pub struct ClaimChoice {
-    pub answer: Claiming,
-    pub change: Change,
-}
-
-#[derive(Drop)]
-pub struct TakeChoice {
-    pub answer: Taking,
-    pub change: Change,
-}
-
-#[derive(Drop)]
-pub struct CommitChoice {
-    pub answer: Committing,
-    pub change: Change,
-}
-
-#[derive(Drop)]
-pub struct ReleaseChoice {
-    pub answer: Releasing,
+pub struct Choice<T> {
+    pub answer: Result<T, Refusal>,
     pub change: Change,
 }

@@ -6,23 +6,29 @@ ghost use Rattle.std.specs.Prelude.{◌≡◌};
 ghost use Rattle.book.specs.Calls.{report_answer};
 ghost use Rattle.book_entries.specs.Entries.{book_with, Full};
 
-use book::{Heads, Reporting};
+use book::{Heads, Progress};
 pub use book_decisions_claim::{claim, release};
 pub use book_decisions_commit::commit;
 pub use book_decisions_commit_range::commit_range;
 pub use book_decisions_take::take;
 use book_progress::{committed, complete};
 use book_validity::valid;
+use refusals::Refusal;
 
-pub fn report<'a>(h: Heads, nexts: &'a [u64], tickets: &'a [u64], expiries: &'a [u64]) -> Reporting
+pub fn report<'a>(
+    h: Heads,
+    nexts: &'a [u64],
+    tickets: &'a [u64],
+    expiries: &'a [u64],
+) -> Result<Progress, Refusal>
     requires { Full nexts.now tickets.now expiries.now }
     ensures { result ≡ report_answer (book_with h nexts.now tickets.now expiries.now) }
 {
     if !valid(h, nexts, tickets, expiries) {
-        return Reporting::Refused(50);
+        return Err(Refusal::BookNotValid);
     }
-    Reporting::Progress {
+    Ok(Progress {
         committed: committed(h, nexts),
         complete: complete(h, nexts),
-    }
+    })
 }

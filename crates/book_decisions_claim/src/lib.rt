@@ -4,10 +4,10 @@
 ghost use Rattle.book_entries.specs.Entries.{book_with, Full};
 ghost use Rattle.book_decisions_claim.specs.Claims.{ClaimOf, ReleaseOf};
 
-use book::{Change, ClaimChoice, Claiming, Heads, ReleaseChoice, Releasing};
-use book_claims::claim_number;
+use book::{Change, Choice, Heads};
+use book_claims::claimable;
 use book_shares::entry;
-use book_standing::{Asked, ask};
+use book_standing::ask;
 
 pub fn claim<'a>(
     h: Heads,
@@ -17,28 +17,29 @@ pub fn claim<'a>(
     tick: u64,
     share: u64,
     length: u64,
-) -> ClaimChoice
+) -> Choice<u64>
     requires { Full nexts.now tickets.now expiries.now }
     ensures { ClaimOf (book_with h nexts.now tickets.now expiries.now) tick share length result.answer result.change }
 {
-    let number = claim_number(h, nexts, tickets, expiries, tick, share, length);
-    if number != 0 {
-        return ClaimChoice {
-            answer: Claiming::Refused(number),
+    match claimable(h, nexts, tickets, expiries, tick, share, length) {
+        Err(refusal) => Choice {
+            answer: Err(refusal),
             change: Change::Nothing,
-        };
-    }
-    let ticket = h.issued + 1;
-    ClaimChoice {
-        answer: Claiming::Ticket(ticket),
-        change: Change::Entries {
-            latest: tick,
-            issued: ticket,
-            share,
-            next: entry(nexts, share),
-            ticket,
-            expiry: tick + length,
         },
+        Ok(()) => {
+            let ticket = h.issued + 1;
+            Choice {
+                answer: Ok(ticket),
+                change: Change::Entries {
+                    latest: tick,
+                    issued: ticket,
+                    share,
+                    next: entry(nexts, share),
+                    ticket,
+                    expiry: tick + length,
+                },
+            }
+        }
     }
 }
 
@@ -49,17 +50,17 @@ pub fn release<'a>(
     expiries: &'a [u64],
     tick: u64,
     ticket: u64,
-) -> ReleaseChoice
+) -> Choice<()>
     requires { Full nexts.now tickets.now expiries.now }
     ensures { ReleaseOf (book_with h nexts.now tickets.now expiries.now) tick ticket result.answer result.change }
 {
     match ask(h, nexts, tickets, expiries, tick, ticket) {
-        Asked::Refused(k) => ReleaseChoice {
-            answer: Releasing::Refused(k),
+        Err(refusal) => Choice {
+            answer: Err(refusal),
             change: Change::Nothing,
         },
-        Asked::Share(j) => ReleaseChoice {
-            answer: Releasing::Released,
+        Ok(j) => Choice {
+            answer: Ok(()),
             change: Change::Entries {
                 latest: tick,
                 issued: h.issued,

@@ -8,9 +8,10 @@ ghost use Rattle.book.specs.Calls.{moved_to};
 ghost use Rattle.book_entries.specs.Entries.{book_with, Full};
 ghost use Rattle.book_decisions_commit.specs.Commits.{CommitOf};
 
-use book::{Change, CommitChoice, Committing, Heads};
+use book::{Change, Choice, Heads};
 use book_shares::{entry, past};
-use book_standing::{Asked, ask};
+use book_standing::ask;
+use refusals::Refusal;
 
 // An entry of a share, 0 where its ticket has ended.
 fn unless_ended(ended: bool, x: u64) -> u64
@@ -55,24 +56,24 @@ pub fn commit<'a>(
     tick: u64,
     ticket: u64,
     position: u64,
-) -> CommitChoice
+) -> Choice<()>
     requires { Full nexts.now tickets.now expiries.now }
     ensures { CommitOf (book_with h nexts.now tickets.now expiries.now) tick ticket position result.answer result.change }
 {
     match ask(h, nexts, tickets, expiries, tick, ticket) {
-        Asked::Refused(k) => CommitChoice {
-            answer: Committing::Refused(k),
+        Err(refusal) => Choice {
+            answer: Err(refusal),
             change: Change::Nothing,
         },
-        Asked::Share(j) => {
+        Ok(j) => {
             if entry(nexts, j) != position {
-                return CommitChoice {
-                    answer: Committing::Refused(60),
+                return Choice {
+                    answer: Err(Refusal::PositionNotDue),
                     change: Change::Nothing,
                 };
             }
-            CommitChoice {
-                answer: Committing::Committed,
+            Choice {
+                answer: Ok(()),
                 change: moved_to(h, tickets, expiries, tick, j, position + 1),
             }
         }

@@ -6,10 +6,9 @@ ghost use Rattle.book.specs.Changes.{changed, Placed};
 ghost use Rattle.book_entries.specs.Entries.{book_with, Full};
 ghost use Rattle.book_decisions_take.specs.Takes.{GivenOf};
 
-use book::{Change, Heads, TakeChoice, Taking};
+use book::{Change, Choice, Heads, Taken};
 use book_shares::entry;
-use book_standing::{Asked, ask};
-use listing_ranking::Entry;
+use book_standing::ask;
 
 // Writes the diagram at the next position of share j, if the lists have room.
 fn given(
@@ -20,21 +19,21 @@ fn given(
     s0: &mut [u16],
     s1: &mut [u16],
     word: &mut [u16],
-) -> TakeChoice
+) -> Choice<Taken>
     ensures { GivenOf h.size j position tick s0.old s1.old word.old result.answer result.change
         s0.new s1.new word.new }
 {
     match listing_ranking::diagram_at(h.size, position, s0, s1, word) {
-        Entry::Refused(k) => TakeChoice {
-            answer: Taking::Refused(k),
+        Err(refusal) => Choice {
+            answer: Err(refusal),
             change: Change::Nothing,
         },
-        Entry::Length(m) => TakeChoice {
-            answer: Taking::Given {
+        Ok(m) => Choice {
+            answer: Ok(Taken {
                 share: j,
                 position,
                 length: m as u64,
-            },
+            }),
             change: Change::Latest(tick),
         },
     }
@@ -50,7 +49,7 @@ pub fn take<'a>(
     s0: &mut [u16],
     s1: &mut [u16],
     word: &mut [u16],
-) -> TakeChoice
+) -> Choice<Taken>
     requires { Full nexts.now tickets.now expiries.now }
     ensures { TakePromise (book_with h nexts.now tickets.now expiries.now) tick ticket
         s0.old s1.old word.old result.answer
@@ -58,10 +57,10 @@ pub fn take<'a>(
         × Placed result.change }
 {
     match ask(h, nexts, tickets, expiries, tick, ticket) {
-        Asked::Refused(k) => TakeChoice {
-            answer: Taking::Refused(k),
+        Err(refusal) => Choice {
+            answer: Err(refusal),
             change: Change::Nothing,
         },
-        Asked::Share(j) => given(h, j, entry(nexts, j), tick, s0, s1, word),
+        Ok(j) => given(h, j, entry(nexts, j), tick, s0, s1, word),
     }
 }

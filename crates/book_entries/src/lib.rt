@@ -37,10 +37,8 @@ pub fn rest_unused<'a>(next: &'a [u64], ticket: &'a [u64], expiry: &'a [u64], k:
     ensures { result ≡ unused_after next.now ticket.now expiry.now k }
 {
     let mut any: u64 = 0;
-    let mut i = k;
-    while i < 32 {
+    for i in k..32 {
         any = (next[i] | (ticket[i] | expiry[i])) | any;
-        i += 1;
     }
     any == 0
 }

@@ -8,10 +8,11 @@ ghost use Rattle.listing.specs.Listing.{count};
 ghost use Rattle.book.specs.Shares.{first};
 ghost use Rattle.book.specs.Calls.{opened, open_answer, open_book};
 
-use book::{Book, OpenDone, Opening};
+use book::{Book, Done};
 use book_connectives::among;
 use book_shares::{count_of, last_of};
 use diagrams::Diagram;
+use refusals::Refusal;
 
 // The first positions of shares 1..k; 0 for the unused ones.
 fn firsts(total: u64, k: u64) -> [u64; 32]
@@ -19,10 +20,8 @@ fn firsts(total: u64, k: u64) -> [u64; 32]
     ensures { (n : ℕ) → total ≡ count n → result ≡ tabulate (λ j. cond (leb j k) (first n k j) 0) 32 }
 {
     let mut next: [u64; 32] = [0; 32];
-    let mut i: u64 = 0;
-    while i < k {
+    for i in 0..k {
         next[i as usize] = last_of(total, k, i) + 1;
-        i += 1;
     }
     next
 }
@@ -44,23 +43,23 @@ fn opened(size: u64, k: u64) -> Book
     }
 }
 
-pub fn open_core(b: Book, size: u64, k: u64) -> OpenDone
+pub fn open_core(b: Book, size: u64, k: u64) -> Done<()>
     ensures { (result.answer ≡ open_answer size k) × (result.book ≡ open_book b size k) }
 {
     if !among(Diagram::MAX_LISTED as u64, size) {
-        return OpenDone {
-            answer: Opening::Refused(31),
+        return Done {
+            answer: Err(Refusal::ListedSizeOutOfRange),
             book: b,
         };
     }
     if !among(32, k) {
-        return OpenDone {
-            answer: Opening::Refused(51),
+        return Done {
+            answer: Err(Refusal::SharesOutOfRange),
             book: b,
         };
     }
-    OpenDone {
-        answer: Opening::Opened,
+    Done {
+        answer: Ok(()),
         book: opened(size, k),
     }
 }

@@ -17,11 +17,9 @@ pub fn committed(h: Heads, nexts: &[u64]) -> u64
 {
     let total = count_of(h.size);
     let mut sum: u64 = 0;
-    let mut i: u64 = 0;
-    while i < h.shares {
+    for i in 0..h.shares {
         let index = i as usize;
         sum += nexts[index] - (last_of(total, h.shares, i) + 1);
-        i += 1;
     }
     sum
 }
@@ -32,13 +30,11 @@ pub fn complete(h: Heads, nexts: &[u64]) -> bool
     ensures { (t e : List ℕ) → result ≡ complete (book_with h nexts.now t e) }
 {
     let total = count_of(h.size);
-    let mut i: u64 = 0;
-    while i < h.shares {
+    for i in 0..h.shares {
         let index = i as usize;
         if nexts[index] <= last_of(total, h.shares, i + 1) {
             return false;
         }
-        i += 1;
     }
     true
 }

@@ -4,10 +4,10 @@ use native.Mathlib.Omega.{arith}
 use Rattle.lists.specs.Ranges.{OneTo}
 use Rattle.book.specs.declared.types.Book.{Book}
 use Rattle.book.proofs.Accepted.{TicketGood, ticket-good}
-use Rattle.book_standing.specs.declared.Asked.TheVariants as asked
+use Rattle.std.specs.Prelude.{Ok}
 use Rattle.book_standing.specs.Ask.{AskPromise}
 
-module _ (b : Book) (tick t j : ℕ) (a : AskPromise b tick t (asked.Share j)) where
+module _ (b : Book) (tick t j : ℕ) (a : AskPromise b tick t (Ok j)) where
   pub asked-good : TicketGood b tick t
   asked-good = (ticket-good b tick t 0 (a.1 0)).0
 

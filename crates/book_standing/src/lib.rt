@@ -10,13 +10,7 @@ use book::Heads;
 use book_heads::tick_in;
 use book_shares::entry;
 use book_validity::valid;
-
-// The share where the ticket stands and has not lapsed, or 50, 52, 58 or 59.
-#[derive(Drop)]
-pub enum Asked {
-    Share(u64),
-    Refused(u16),
-}
+use refusals::Refusal;
 
 // The share where the ticket stands, 0 where it stands at none.
 fn holder(h: Heads, tickets: &[u64], ticket: u64) -> u64
@@ -26,17 +20,15 @@ fn holder(h: Heads, tickets: &[u64], ticket: u64) -> u64
     if ticket == 0 {
         return 0;
     }
-    let mut j = h.shares;
-    while 0 < j {
-        let i = (j - 1) as usize;
-        if tickets[i] == ticket {
-            return j;
+    for i in (0..h.shares).rev() {
+        if tickets[i as usize] == ticket {
+            return i + 1;
         }
-        j -= 1;
     }
     0
 }
 
+// The share where the ticket stands and has not lapsed, or 50, 52, 58 or 59.
 pub fn ask<'a>(
     h: Heads,
     nexts: &'a [u64],
@@ -44,22 +36,22 @@ pub fn ask<'a>(
     expiries: &'a [u64],
     tick: u64,
     ticket: u64,
-) -> Asked
+) -> Result<u64, Refusal>
     requires { Full nexts.now tickets.now expiries.now }
     ensures { AskPromise (book_with h nexts.now tickets.now expiries.now) tick ticket result }
 {
     if !valid(h, nexts, tickets, expiries) {
-        return Asked::Refused(50);
+        return Err(Refusal::BookNotValid);
     }
     if !tick_in(h.latest, tick) {
-        return Asked::Refused(52);
+        return Err(Refusal::TickOutOfRange);
     }
     let share = holder(h, tickets, ticket);
     if share == 0 {
-        return Asked::Refused(58);
+        return Err(Refusal::NoSuchTicket);
     }
     if entry(expiries, share) <= tick {
-        return Asked::Refused(59);
+        return Err(Refusal::TicketLapsed);
     }
-    Asked::Share(share)
+    Ok(share)
 }

@@ -27,12 +27,10 @@ pub fn tickets_apart(ticket: &[u64], k: usize) -> bool
 {
     let mut marks = [0u8; 160];
     let mut clashes: u8 = 0;
-    let mut i: usize = 0;
-    while i < k {
+    for i in 0..k {
         let place = mark_place(ticket[i], i);
         clashes = clashes + marks[place];
         marks[place] = 1;
-        i += 1;
     }
     clashes == 0
 }
@@ -44,10 +42,8 @@ fn ticket_once(ticket: &[u64], i: usize) -> bool
 {
     let t = ticket[i];
     let mut again = false;
-    let mut m: usize = 0;
-    while m < i {
+    for m in 0..i {
         again = either(again, ticket[m] == t);
-        m += 1;
     }
     either(t == 0, not(again))
 }
@@ -58,10 +54,8 @@ pub fn tickets_once(ticket: &[u64], k: usize) -> bool
     ensures { result ≡ every k (stands_once ticket.now) }
 {
     let mut once = true;
-    let mut i: usize = 0;
-    while i < k {
+    for i in 0..k {
         once = both(ticket_once(ticket, i), once);
-        i += 1;
     }
     once
 }

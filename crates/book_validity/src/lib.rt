@@ -31,8 +31,7 @@ fn shares_valid<'a>(
     let part = total % k;
     let mut before: u64 = 0;
     let mut rest: u64 = 0;
-    let mut i: usize = 0;
-    while (i as u64) < k {
+    for i in 0..k as usize {
         let ends = onward(Ends { last: before, rest }, step, part, k);
         let end = ends.last;
         if !own_valid(before, end, h.latest, h.issued, next, ticket, expiry, i) {
@@ -40,7 +39,6 @@ fn shares_valid<'a>(
         }
         before = end;
         rest = ends.rest;
-        i += 1;
     }
     true
 }

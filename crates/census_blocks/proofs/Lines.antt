@@ -1,25 +1,24 @@
 -- The pieces of a line, put one after another, are the row of its position.
 use mathlib.Core.Path.{◌≡◌, refl, sym, ap, ◌∙◌}
-use mathlib.Core.Logic.{◌⊎◌, inl, inr}
+use mathlib.Core.Logic.{inl, inr}
 use mathlib.Core.Bool.{Bool, true, false, cond}
-use mathlib.Core.List.{List, [], ◌∷◌, ◌++◌, map, flatten, append_assoc, append-nil}
-use Prim.Native.Nat.{ℕ, zero, suc, ◌+◌, ◌≤◌, ◌<◌}
+use mathlib.Core.List.{List, [], ◌∷◌, ◌++◌, flatten, append_assoc, append-nil}
+use Prim.Native.Nat.{ℕ, zero, suc, ◌≤◌}
 use native.Mathlib.Omega.{arith}
 use lib.Dec.{eqb}
 use lib.IntN.{ℤ, pos, negsuc}
 use lib.ListN.{length}
 use Rattle.lists.specs.Lists.{at}
-use Rattle.lists.specs.Ranges.{OneTo}
 use Rattle.words.specs.Word.{Pair}
 use Rattle.words.specs.Shape.{Word}
-use Rattle.words.specs.Letters.{decimal, letters, starts_with_root}
-use Rattle.words.proofs.Order.{same_self, same_true, same_false}
+use Rattle.words.specs.Letters.{decimal, letters}
+use Rattle.words.proofs.Order.{same_self, same_false}
 use Rattle.labelling.specs.Labelling.{word_of}
-use Rattle.labelling.specs.Rootings.{least_word, Kept}
+use Rattle.labelling.specs.Rootings.{least_word}
 use Rattle.labelling.proofs.Rootings.{kept-least, least_kept}
 use Rattle.invariants_cycles.specs.Cycles.{e2, e3, c, t, level}
 use Rattle.invariants.specs.declared.Numbers.{Numbers}
-use Rattle.invariants.specs.declared.Measured.TheVariants.{Known}
+use Rattle.std.specs.Prelude.{Ok}
 use Rattle.invariants.specs.Promises.{Invariants}
 use Rattle.listing.specs.Position.{word_at}
 use Rattle.listing.specs.Diagrams.{diagram_at}
@@ -27,7 +26,7 @@ use Rattle.run_marks.specs.Marks.{MarkOf}
 use Rattle.text_printing_pieces.proofs.Pieces.{flatten-append}
 use Rattle.text_printing.specs.Printing.{signed_pieces, word_pieces, entry_pieces, list_pieces}
 use Rattle.census_lines.specs.Lines.{field, numbers_pieces, measured_pieces, mark_text, line_pieces}
-use Rattle.census_definition.specs.Census.{ascii, signed, joined, commas, is_kept_word, numbers, fields, row}
+use Rattle.census_definition.specs.Census.{signed, joined, commas, is_kept_word, row}
 
 -- ---- pieces as texts
 
@@ -100,7 +99,7 @@ mark-text m = go (eqb m 1)
 
 pub line_row : (n p : ℕ) (r : Numbers) (m : ℕ) → Word n (word_at n p) → length (diagram_at n p).black ≡ n → length (diagram_at n p).white ≡ n → 1 ≤ n
     → Invariants (diagram_at n p).black (diagram_at n p).white r → MarkOf (diagram_at n p) m
-    → flatten (line_pieces p (word_at n p) (diagram_at n p).black (diagram_at n p).white (Known r) m) ≡ row n p
+    → flatten (line_pieces p (word_at n p) (diagram_at n p).black (diagram_at n p).white (Ok r) m) ≡ row n p
 unfolding line_pieces measured_pieces numbers_pieces row
 line_row n p r m a l0 l1 h I k =
     let D = diagram_at n p in

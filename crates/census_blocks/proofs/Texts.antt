@@ -1,26 +1,25 @@
 -- The lines of a block that is written, in a buffer with room for them: they are the rows of its positions, one after another.
 use mathlib.Core.Path.{◌≡◌, refl, sym, ap, ◌∙◌, subst}
-use mathlib.Core.Logic.{◌⊎◌, inl, inr}
+use mathlib.Core.Logic.{inl, inr}
 use mathlib.Core.Bool.{Bool, true, false, cond}
-use mathlib.Core.List.{List, [], ◌∷◌, ◌++◌, flatten}
+use mathlib.Core.List.{List, ◌++◌, flatten}
 use Prim.Native.Nat.{ℕ, zero, suc, ◌+◌, ◌*◌, ◌≤◌, ◌<◌}
 use native.Mathlib.Nat.{suc-mul, mul-le-mul, mul-le-mul_right}
 use native.Mathlib.Omega.{arith}
 use lib.Dec.{eqb}
 use lib.ListN.{length, get_or, replicate, length-append, length-replicate, get_or-append}
-use Rattle.lists.specs.Lists.{at}
 use Rattle.lists.specs.Ranges.{OneTo}
-use Rattle.lists.specs.Overwriting.{overwrite, overwrite_from}
+use Rattle.lists.specs.Overwriting.{overwrite}
 use Rattle.lists.proofs.Overwriting.{over-length, over-more}
-use Rattle.diagrams.specs.Check.{Accepts, Refuses}
+use Rattle.diagrams.specs.Check.{Accepts}
 use Rattle.diagrams.proofs.Checks.{not-both}
 use Rattle.words.specs.Shape.{Word}
-use Rattle.words.specs.Word.{Pair}
 use Rattle.labelling.proofs.OfLists.{spelled-accepted}
 use Rattle.invariants.specs.Promises.{Invariants, InvariantsPromise}
 use Rattle.invariants.proofs.SmallLevels.{small-level}
-use Rattle.invariants.specs.declared.Measured.{Measured}
-use Rattle.invariants.specs.declared.Measured.TheVariants.{Known, Refused}
+use Rattle.std.specs.Prelude.{Result, Ok, Err}
+use Rattle.refusals.specs.declared.Refusal.{Refusal}
+use Rattle.refusals.specs.Numbers.{number}
 use Rattle.invariants.specs.declared.Numbers.{Numbers}
 use Rattle.listing.specs.Listing.{count}
 use Rattle.listing.specs.Position.{word_at}
@@ -34,7 +33,7 @@ use Rattle.run_rows_writing.specs.Promises.{ShortRows, RunAfterRows, RowsGiven}
 use Rattle.run_blocks_answers.proofs.Given.{gave-holds}
 use Rattle.run_row.specs.Rows.{flat_words}
 use Rattle.listing.proofs.Spelled.{spelled-of, black-length, white-length}
-use Rattle.run_marks.specs.Marks.{MarkOf, Marks, BlockHeld, MarksWritten}
+use Rattle.run_marks.specs.Marks.{MarkOf, BlockHeld, MarksWritten}
 use Rattle.run_marks.proofs.Marking.{row-length, Here, here}
 use Rattle.text_printing.specs.Printing.{Output, output, put_all}
 use Rattle.text_printing.proofs.Printing.{put-all-fits}
@@ -42,7 +41,7 @@ use Rattle.census_lines.specs.Lines.{line_pieces}
 use Rattle.census_rows.specs.Rows as block
 use Rattle.census_rows.specs.Rows.{part, items_before, rows_printed, RowsPut, none, more, PutRowsPromise}
 use Rattle.census_rows.proofs.Rows.{part_of, printed-all}
-use Rattle.census_definition.specs.Census.{is_kept_word, row, rows, kept_among, row_bytes}
+use Rattle.census_definition.specs.Census.{row, rows, kept_among, row_bytes}
 use Rattle.census_definition.proofs.Lengths.{row_fits}
 use Rattle.census_blocks.specs.Blocks.{RowsText}
 use Rattle.census_blocks.proofs.Lines.{line_row, mark-kept}
@@ -62,10 +61,10 @@ rows_fit n p (suc k) s h =
 -- ---- one row of a block
 
 -- a diagram of so few edges is answered its invariants: neither check nor its level refuses it
-known : (s0 s1 : List ℕ) (a : Measured) → Accepts s0 s1 1 → length s0 < 64 → InvariantsPromise s0 s1 1 a → (r : Numbers) × (a ≡ Known r) × Invariants s0 s1 r
-known s0 s1 (Known r) A s P = (r, refl, P.2)
-known s0 s1 (Refused k) A s (inl R) = absurd (not-both s0 s1 1 k A R)
-known s0 s1 (Refused k) A s (inr O) = absurd (small-level A s O.2)
+known : (s0 s1 : List ℕ) (a : Result Numbers Refusal) → Accepts s0 s1 1 → length s0 < 64 → InvariantsPromise s0 s1 1 a → (r : Numbers) × (a ≡ Ok r) × Invariants s0 s1 r
+known s0 s1 (Ok r) A s P = (r, refl, P.2)
+known s0 s1 (Err e) A s (inl R) = absurd (not-both s0 s1 1 (number e) A R)
+known s0 s1 (Err e) A s (inr O) = absurd (small-level A s O.2)
 
 module _ {n p k : ℕ} {b0 b1 bw bl : List ℕ} (H : BlockHeld n p k b0 b1 bw bl) where
   items-before : (i : ℕ) → i ≤ k → items_before bl i ≡ length (flat_words n p i)
@@ -110,7 +109,7 @@ module _ {n p k : ℕ} {b0 b1 bw bl : List ℕ} (H : BlockHeld n p k b0 b1 bw bl
     sized-white = white-length n (word_at n (suc (p + i))) word_in
 
     -- the pieces of its line are its row
-    row-pieces : (a : Measured) (m : ℕ) → InvariantsPromise (part b0 (i * n) n) (part b1 (i * n) n) 1 a → MarkOf (diagram_at n (suc (p + i))) m
+    row-pieces : (a : Result Numbers Refusal) (m : ℕ) → InvariantsPromise (part b0 (i * n) n) (part b1 (i * n) n) 1 a → MarkOf (diagram_at n (suc (p + i))) m
         → flatten (line_pieces (p + suc i) (part bw (items_before bl i) (get_or bl i 0)) (part b0 (i * n) n) (part b1 (i * n) n) a m) ≡ row n (suc (p + i))
     row-pieces a m P k =
         let D = diagram_at n (suc (p + i)) in

@@ -7,7 +7,8 @@ ghost use Rattle.words.specs.Letters.{decimal};
 ghost use Rattle.text_printing.specs.Printing.{output, put, put_all, list_pieces};
 ghost use Rattle.census_lines.specs.Lines.{field, numbers_pieces, measured_pieces, mark_text, line_pieces};
 
-use invariants::{Measured, Numbers};
+use invariants::Numbers;
+use refusals::Refusal;
 use text_printing::{put_byte, put_list, put_number, put_signed, put_text, put_word};
 
 // A number with a space before it.
@@ -39,12 +40,12 @@ fn put_numbers(out: &mut [u8], place: usize, numbers: Numbers) -> usize
 }
 
 // The same of an answer of invariants. Nothing where it is a refusal, which no listed diagram has.
-fn put_measured(out: &mut [u8], place: usize, measured: Measured) -> usize
+fn put_measured(out: &mut [u8], place: usize, measured: Result<Numbers, Refusal>) -> usize
     ensures { output out.new result ≡ put_all (measured_pieces measured) (output out.old place) }
 {
     match measured {
-        Measured::Known(numbers) => put_numbers(out, place, numbers),
-        Measured::Refused(_) => place,
+        Ok(numbers) => put_numbers(out, place, numbers),
+        Err(_) => place,
     }
 }
 
@@ -66,7 +67,7 @@ pub fn put_line(
     word: &[u16],
     s0: &[u16],
     s1: &[u16],
-    measured: Measured,
+    measured: Result<Numbers, Refusal>,
     mark: u8,
 ) -> usize
     ensures { output out.new result

@@ -1,28 +1,29 @@
 -- Each part goes on where the text has come to, and so the parts together are the census.
 use mathlib.Core.Path.{◌≡◌, refl, sym, ap, ◌∙◌}
-use mathlib.Core.Logic.{◌⊎◌, inl, inr}
-use mathlib.Core.List.{List, [], ◌∷◌, ◌++◌, flatten, append_assoc, append-nil}
-use Prim.Native.Nat.{ℕ, zero, suc, ◌+◌, ◌-◌, ◌*◌, ◌^◌, ◌≤◌, ◌<◌, min}
-use native.Mathlib.Nat.{zero-add, mul-le-mul}
+use mathlib.Core.Logic.{inl, inr}
+use mathlib.Core.List.{List, ◌++◌, flatten, append_assoc, append-nil}
+use Prim.Native.Nat.{ℕ, ◌+◌, ◌-◌, ◌^◌, ◌≤◌, ◌<◌, min}
+use native.Mathlib.Nat.{zero-add}
 use native.Mathlib.Omega.{arith}
 use lib.ListN.{length, take}
+use Rattle.std.specs.Prelude.{Ok, Err}
 use Rattle.lists.specs.Ranges.{OneTo}
-use Rattle.lists.specs.Overwriting.{overwrite, overwrite_from}
 use Rattle.lists.proofs.Overwriting.{from-0, over-part, over-within}
 use Rattle.words_decimals.specs.Decimals.{BytesWritten}
 use Rattle.listing.specs.Listing.{count}
 use Rattle.listing_table.proofs.Counts.{count_small}
 use Rattle.run_answers.specs.declared.Run.{Run}
-use Rattle.run_answers.specs.Promises.{fresh, run_after, RunAt}
+use Rattle.run_answers.specs.Promises.{RunAt}
 use Rattle.run_validity.proofs.Runs.{stands_once, stands-not-over}
-use Rattle.run_text.specs.declared.RowsAnswer.TheVariants.{Rows, Refused}
+use Rattle.refusals.specs.declared.Refusal.{Refusal}
+use Rattle.run_text.specs.declared.TextRows.{TextRows}
 use Rattle.run_text.specs.Promises.{RowsPromise}
 use Rattle.run_text.proofs.Growing.{rows_then}
 use Rattle.census_definition.specs.Census.{header, rows, kept_among, totals, census, row_bytes}
 use Rattle.census_definition.proofs.Kept.{kept_then, kept-most}
 use Rattle.census_blocks.specs.Blocks.{RowsText}
 use Rattle.census_parts.specs.declared.Progress.{Progress}
-use Rattle.census_parts.specs.Parts.{begun, InProgress, printed, printed_at, left, PartGiven, Parts, over, more, PartsAreCensus}
+use Rattle.census_parts.specs.Parts.{begun, InProgress, printed, PartGiven, Parts, over, more, PartsAreCensus}
 
 pub begins : (n : ℕ) → OneTo 50 n → InProgress (begun n)
 unfolding kept_among
@@ -90,18 +91,18 @@ module _ {c : Progress} (I : InProgress c) where
         falls = omega arith;
       }
 
-  pub rows_given : {k m j : ℕ} {next : Run} {a b : List ℕ} → c.stage ≡ 1 → c.listed < count c.size → RowsPromise c.run 128 a next b (Rows k m j)
-      → PartGiven c record { size = c.size; stage = 1; listed = c.listed + k; kept = c.kept + j; run = next } m b
+  pub rows_given : {t : TextRows} {next : Run} {a b : List ℕ} → c.stage ≡ 1 → c.listed < count c.size → RowsPromise c.run 128 a next b (Ok t)
+      → PartGiven c record { size = c.size; stage = 1; listed = c.listed + t.rows; kept = c.kept + t.kept; run = next } t.bytes b
   rows_given z l (inl x) = absurd (stands-not-over stands x.0.1)
-  rows_given {k} {m} {j} {next} {a} {b} z l (inr (n, p, R, room, e, T)) =
+  rows_given {t} {next} {a} {b} z l (inr (n, p, R, room, e, T)) =
       let o = stands_once R stands in
       rows-given-at z l (rw (o.0, o.1) at e) (rw (o.0, o.1) at T)
 
   -- and they are never refused
-  pub rows-refused : {k : ℕ} {next : Run} {a b : List ℕ} → 65536 ≤ length a → RowsPromise c.run 128 a next b (Refused k) → ⊥
+  pub rows-refused : (e : Refusal) {next : Run} {a b : List ℕ} → 65536 ≤ length a → RowsPromise c.run 128 a next b (Err e) → ⊥
   unfolding row_bytes
-  rows-refused h (inl x, q, r) = x.1 c.size c.listed stands
-  rows-refused h (inr (e, (n, p, R, s)), q, r) = let o = R.sized in omega arith
+  rows-refused f h (inl x, q, r) = x.1 c.size c.listed stands
+  rows-refused f h (inr (e, (n, p, R, s)), q, r) = let o = R.sized in omega arith
 
 -- the numbers after a part are small
 pub listed_small : {c next : Progress} {bytes : ℕ} {b : List ℕ} → PartGiven c next bytes b → next.listed < 2 ^ 50

@@ -11,7 +11,7 @@ use census_frame::{put_header, put_totals};
 use listing_places::count_of;
 use run_answers::Run;
 use run_beginning::empty;
-use run_text::RowsAnswer;
+use run_text::TextRows;
 
 // How far a census has come: nothing is printed yet (stage 0), the header and so many rows (1), or all of it (2); how many of these rows' diagrams
 // are kept, and the run after them.
@@ -66,7 +66,7 @@ fn rows_part(progress: Progress, out: &mut [u8]) -> Part
     let answer = done.answer;
     let next = done.run;
     match answer {
-        RowsAnswer::Rows { rows, bytes, kept } => Part {
+        Ok(TextRows { rows, bytes, kept }) => Part {
             progress: Progress {
                 size: progress.size,
                 stage: 1,
@@ -76,7 +76,7 @@ fn rows_part(progress: Progress, out: &mut [u8]) -> Part
             },
             bytes: bytes as usize,
         },
-        RowsAnswer::Refused(_) => Part { progress, bytes: 0 },
+        Err(_) => Part { progress, bytes: 0 },
     }
 }
 

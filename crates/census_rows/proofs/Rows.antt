@@ -1,9 +1,9 @@
 -- Laws of the lines of a block, and the invariant of the loop that puts them.
-use mathlib.Core.Path.{◌≡◌, refl, sym, ap, ◌∙◌}
+use mathlib.Core.Path.{◌≡◌, refl, sym, ◌∙◌}
 use mathlib.Core.Logic.{◌≢◌}
 use mathlib.Core.Bool.{Bool, true, false, cond}
 use mathlib.Core.List.{List, []}
-use Prim.Native.Nat.{ℕ, suc, ◌+◌, ◌-◌, ◌*◌, ◌≤◌, ◌<◌}
+use Prim.Native.Nat.{ℕ, ◌+◌, ◌-◌, ◌*◌, ◌≤◌, ◌<◌}
 use native.Mathlib.Nat.{zero-mul, suc-mul, mul-le-mul_right}
 use native.Mathlib.Numerals.{add-one}
 use native.Mathlib.Omega.{arith}
@@ -11,7 +11,9 @@ use lib.Dec.{eqb, leb, ltb}
 use lib.ListN.{length, get_or, take, drop}
 use Rattle.lists.proofs.Tests.{eqb-ne, le-true, le-false, lt-true, lt-false, leb-true, ltb-true}
 use Rattle.invariants.specs.Promises.{InvariantsPromise}
-use Rattle.invariants.specs.declared.Measured.{Measured}
+use Rattle.std.specs.Prelude.{Result}
+use Rattle.invariants.specs.declared.Numbers.{Numbers}
+use Rattle.refusals.specs.declared.Refusal.{Refusal}
 use Rattle.text_printing.specs.Printing.{output, put_all}
 use Rattle.census_lines.specs.Lines.{line_pieces}
 use Rattle.census_rows.specs.Rows.{part, items_before, kept_among, rows_printed, RowsPut, none, more, PutRowsPromise}
@@ -117,7 +119,7 @@ module _ {p n k : ℕ} {s0 s1 words lengths marks before : List ℕ} {count : �
     -- one row more: its word w, its lists b and v
     pub midway-more : m ≡ get_or lengths i 0 → m ≤ 65535 → x ≡ one (get_or marks i 0) → x ≤ 1 → length out' ≡ length out
         → w ≡ part words item m → b ≡ part s0 first n → v ≡ part s1 first n
-        → ((a : Measured) × InvariantsPromise b v 1 a × (output out' end' ≡ put_all (line_pieces (p + (i + 1)) w b v a (get_or marks i 0)) (output out end)))
+        → ((a : Result Numbers Refusal) × InvariantsPromise b v 1 a × (output out' end' ≡ put_all (line_pieces (p + (i + 1)) w b v a (get_or marks i 0)) (output out end)))
         → RowsMidway p n k s0 s1 words lengths marks before count out' end' (kept + x) (first + n) (item + m) (i + 1)
     unfolding kept_among items_before
     midway-more em sm ex sx el ew eb ev (a, q, e) = record {

@@ -6,9 +6,10 @@
 --   rows_printed p n k        k; 0 where that is more than 48 rows, n is more than 50, or positions up to p + k do not fit 64 bits
 --   RowsPut ..  k o o'       the lines of the first k diagrams, put one after another into o, leave o'; the first is at position p + 1
 --   PutRowsPromise ..        what `put_rows` leaves: these lines from the beginning of the buffer on, and how many of the diagrams are kept
-use Rattle.std.specs.Prelude.{◌≡◌, cond, List, [], ℕ, zero, suc, ◌+◌, ◌*◌, eqb, leb, ltb, length, get_or, take, drop}
+use Rattle.std.specs.Prelude.{◌≡◌, cond, List, [], ℕ, zero, suc, ◌+◌, ◌*◌, eqb, leb, ltb, length, get_or, take, drop, Result}
 use Rattle.invariants.specs.Promises.{InvariantsPromise}
-use Rattle.invariants.specs.declared.Measured.{Measured}
+use Rattle.invariants.specs.declared.Numbers.{Numbers}
+use Rattle.refusals.specs.declared.Refusal.{Refusal}
 use Rattle.text_printing.specs.Printing.{Output, output, put_all}
 use Rattle.census_lines.specs.Lines.{line_pieces}
 
@@ -28,7 +29,7 @@ rows_printed p n k = cond (leb k 48) (cond (leb n 50) (cond (ltb (p + k) 1844674
 
 pub data RowsPut (p n : ℕ) (s0 s1 words lengths marks : List ℕ) : ℕ → Output → Output → Type 0 where
   none : {o : Output} → RowsPut p n s0 s1 words lengths marks 0 o o
-  more : {i : ℕ} {o o' o'' : Output} (a : Measured)
+  more : {i : ℕ} {o o' o'' : Output} (a : Result Numbers Refusal)
       → RowsPut p n s0 s1 words lengths marks i o o'
       → InvariantsPromise (part s0 (i * n) n) (part s1 (i * n) n) 1 a
       → o'' ≡ put_all (line_pieces (p + suc i) (part words (items_before lengths i) (get_or lengths i 0)) (part s0 (i * n) n) (part s1 (i * n) n) a (get_or marks i 0)) o'

@@ -1,9 +1,10 @@
 // The lines of a block of diagrams, as the listing in blocks writes them: one for each, with its position, word, lists, invariants and keep mark.
 #![tactic(auto)]
 
-ghost use Rattle.std.specs.Prelude.{◌≡◌, cond, ◌≤◌, eqb};
+ghost use Rattle.std.specs.Prelude.{◌≡◌, cond, ◌≤◌, eqb, Result};
 ghost use Rattle.invariants.specs.Promises.{InvariantsPromise};
-ghost use Rattle.invariants.specs.declared.Measured.{Measured};
+ghost use Rattle.invariants.specs.declared.Numbers.{Numbers};
+ghost use Rattle.refusals.specs.declared.Refusal.{Refusal};
 ghost use Rattle.text_printing.specs.Printing.{output, put_all};
 ghost use Rattle.census_lines.specs.Lines.{line_pieces};
 ghost use Rattle.census_rows.specs.Rows.{part, rows_printed, PutRowsPromise};
@@ -67,7 +68,7 @@ fn put_row(
     s1: &[u16],
     mark: u8,
 ) -> usize
-    ensures { (a : Measured)
+    ensures { (a : Result Numbers Refusal)
         × InvariantsPromise s0.now s1.now 1 a
         × (output out.new result ≡ put_all (line_pieces position word.now s0.now s1.now a mark) (output out.old place)) }
 {
@@ -76,7 +77,7 @@ fn put_row(
 }
 
 // How far the lines of a block reach, and how many of its diagrams are kept.
-#[derive(Drop)]
+#[derive(Clone, Copy)]
 pub struct Page {
     pub end: usize,
     pub kept: u64,
@@ -102,15 +103,13 @@ pub fn put_rows(
     let mut kept: u64 = 0;
     let mut first: usize = 0;
     let mut item: usize = 0;
-    let mut i: usize = 0;
-    while i < count {
+    for i in 0..count {
         let m = items_of(lengths[i]);
         let mark = marks[i];
-        i += 1;
         end = put_row(
             out,
             end,
-            listed + i as u64,
+            listed + (i as u64 + 1),
             part(words, item, m),
             part(s0, first, n),
             part(s1, first, n),

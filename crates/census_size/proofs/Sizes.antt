@@ -8,9 +8,10 @@ use lib.ListN.{length, get_or}
 use Rattle.lists.proofs.Tests.{lt?}
 use Rattle.words.specs.Letters.{decimal}
 use Rattle.words.proofs.Decimal.{decimal-small, decimal-more}
-use Rattle.listing_ranking.specs.declared.Total.TheVariants as total
+use Rattle.std.specs.Prelude.{Ok, Err}
+use Rattle.refusals.specs.declared.Refusal.{Refusal}
 use Rattle.listing_ranking.specs.Promises.{CountPromise}
-use Rattle.census_size.specs.declared.Request.TheVariants.{Census, Refused}
+use Rattle.census_size.specs.declared.Request.TheVariants.{Census}
 use Rattle.census_size.specs.Size.{Names, NamedSizePromise, RequestPromise}
 
 -- ---- decimals of one digit and of two, with the newline
@@ -122,10 +123,10 @@ pub nothing-asked : (input : List ℕ) → length input ≡ 0 → input ≡ []
 nothing-asked [] e = refl
 nothing-asked (x ∷ l) e = absurd (omega arith)
 
-pub census-asked : (input : List ℕ) (n c : ℕ) → NamedSizePromise input n → CountPromise n (total.Number c) → RequestPromise input (Census n)
+pub census-asked : (input : List ℕ) (n c : ℕ) → NamedSizePromise input n → CountPromise n (Ok c) → RequestPromise input (Ok (Census n))
 census-asked input n c (inl (m, h)) (s, e) = (m, s)
 census-asked input n c (inr (z, none)) (s, e) = absurd (omega arith)
 
-pub refusal-asked : (input : List ℕ) (n k : ℕ) → length input ≢ 0 → NamedSizePromise input n → CountPromise n (total.Refused k) → RequestPromise input (Refused k)
-refusal-asked input n k d (inl (m, h)) (e, out) = (e, λ q. d (ap length q), λ x s p. out (rw (names-once input x n (omega arith) h p m) at s))
-refusal-asked input n k d (inr (z, none)) (e, out) = (e, λ q. d (ap length q), λ x s p. none x (omega arith) p)
+pub refusal-asked : (input : List ℕ) (n : ℕ) (r : Refusal) → length input ≢ 0 → NamedSizePromise input n → CountPromise n (Err r) → RequestPromise input (Err r)
+refusal-asked input n r d (inl (m, h)) (e, out) = (e, λ q. d (ap length q), λ x s p. out (rw (names-once input x n (omega arith) h p m) at s))
+refusal-asked input n r d (inr (z, none)) (e, out) = (e, λ q. d (ap length q), λ x s p. none x (omega arith) p)

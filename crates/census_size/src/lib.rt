@@ -1,11 +1,11 @@
-// What the input of the census program asks for. Document 01: it "reads a decimal size without leading zeros and a newline, nothing else"; other
-// input, and a size outside 1..50, is refused 31. Empty input, no byte at all, asks for the summary (request U4).
+// What the input of the census program asks for: a decimal size without leading zeros and a newline, nothing else. Other input, and a size outside
+// 1..50, is refused 31. Empty input, no byte at all, asks for the summary.
 #![tactic(auto)]
 
 ghost use Rattle.std.specs.Prelude.{[], ◌∷◌};
 ghost use Rattle.census_size.specs.Size.{NamedSizePromise, RequestPromise};
 
-use listing_ranking::Total;
+use refusals::Refusal;
 
 // The size that a byte and the byte that ends it name; 0 where they name none.
 fn one_digit(digit: u8, end: u8) -> u64
@@ -53,25 +53,24 @@ fn named_size(input: &[u8]) -> u64
     0
 }
 
-// What is to be printed: the summary of the small sizes, the census of a size, or a refusal.
-#[derive(Drop)]
+// What is to be printed: the summary of the small sizes, or the census of a size.
+#[derive(Clone, Copy)]
 pub enum Request {
     Summary,
     Census(u64),
-    Refused(u16),
 }
 
 // What the input asks for.
-pub fn asked(input: &[u8]) -> Request
+pub fn asked(input: &[u8]) -> Result<Request, Refusal>
     ensures { RequestPromise input.now result }
 {
     if input.len() == 0 {
-        return Request::Summary;
+        return Ok(Request::Summary);
     }
     let size = named_size(input);
     let total = listing_ranking::count(size);
     match total {
-        Total::Number(_) => Request::Census(size),
-        Total::Refused(k) => Request::Refused(k),
+        Ok(_) => Ok(Request::Census(size)),
+        Err(refusal) => Err(refusal),
     }
 }

@@ -34,10 +34,8 @@ pub fn put_summary(out: &mut [u8], behind: &[u8]) -> usize
     ensures { BytesWritten out.old 0 (summary behind.now) result out.new }
 {
     let mut end: usize = 0;
-    let mut size: u64 = 1;
-    while size <= 9 {
+    for size in 1..=9 {
         end = put_line(out, end, size, behind);
-        size += 1;
     }
     end
 }

@@ -61,9 +61,9 @@ pub fn census<W: Write>(stdout: &mut W, input: &[u8]) -> io::Result<()> {
     let mut out = [0u8; 65536];
     let request = census_size::asked(input);
     match request {
-        Request::Summary => summarise(stdout, &mut out),
-        Request::Census(size) => print(stdout, size, &mut out),
-        Request::Refused(k) => refuse(stdout, k, &mut out),
+        Ok(Request::Summary) => summarise(stdout, &mut out),
+        Ok(Request::Census(size)) => print(stdout, size, &mut out),
+        Err(refusal) => refuse(stdout, refusal.number(), &mut out),
     }
 }
 
@@ -72,6 +72,7 @@ pub fn read_full<R: Read>(stdin: &mut R, list: &mut [u8]) -> io::Result<usize>
     ensures { IfOk result (λ n. n ≤ length list.old) }
 {
     let mut done: usize = 0;
+    // No `for`: each read tells how many bytes it brought.
     while done < list.len() {
         let n = stdin.read(&mut list[done..])?;
         if n == 0 {

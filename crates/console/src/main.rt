@@ -83,8 +83,8 @@ fn answer(
     put_byte(out, end, b'\n')
 }
 
-// Reads and answers to the end of the input. A proved loop has to end, and nothing says that the input does: so the turns are counted
-// down, from a number that no session uses up.
+// Reads and answers to the end of the input. A proved loop has to end, and nothing says that the input does: so it has a number of turns that no
+// session uses up.
 fn session<R: Read, W: Write>(
     stdin: &mut R,
     stdout: &mut W,
@@ -97,8 +97,7 @@ fn session<R: Read, W: Write>(
 ) -> io::Result<()> {
     let mut lines = no_lines();
     let mut place: usize = 0;
-    let mut turns = u64::MAX;
-    while 0 < turns {
+    for _ in 0..u64::MAX {
         lines = next_line(stdin, input, lines)?;
         let start = lines.start;
         let end = lines.end;
@@ -118,7 +117,6 @@ fn session<R: Read, W: Write>(
         if ended {
             return Ok(());
         }
-        turns -= 1;
     }
     Ok(())
 }

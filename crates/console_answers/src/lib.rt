@@ -174,10 +174,8 @@ pub fn put_answer<'a>(
     ensures { output out.new result ≡ put_all (answer_pieces reply (lists s0.now s1.now words.now lengths.now bytes.now) text.now) (output out.old place) }
 {
     let mut next = place;
-    let mut i: usize = 0;
-    while i < text.len() {
-        next = put_field(out, next, text[i], reply, s0, s1, words, lengths, bytes);
-        i += 1;
+    for &byte in text {
+        next = put_field(out, next, byte, reply, s0, s1, words, lengths, bytes);
     }
     next
 }

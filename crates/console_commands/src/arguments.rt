@@ -2,7 +2,7 @@
 ghost use Rattle.std.specs.Prelude.{◌≤◌, ◌<◌, length};
 
 use crate::rows::part;
-use text_parsing::{Parsed, find, list, number};
+use text_parsing::{find, list, number};
 
 // The most entries of a list.
 pub const MAX_ENTRIES: usize = 2048;
@@ -20,24 +20,17 @@ pub struct Arguments {
 }
 
 // A word that is argument k, which a letter says how to read. A list goes into the k-th part of entries, and its value is its length.
-fn argument(letter: u8, word: &[u8], k: usize, entries: &mut [u16]) -> Parsed {
+fn argument(letter: u8, word: &[u8], k: usize, entries: &mut [u16]) -> Option<u64> {
     if letter != b'L' {
         return number(word);
     }
-    let bad = Parsed {
-        good: false,
-        value: 0,
-    };
     if entries.len() / MAX_ENTRIES <= k {
-        return bad;
+        return None;
     }
     let start = MAX_ENTRIES * k;
     let end = start + MAX_ENTRIES;
-    let listed = list(word, &mut entries[start..end]);
-    Parsed {
-        good: listed.good,
-        value: listed.length as u64,
-    }
+    let length = list(word, &mut entries[start..end])?;
+    Some(length as u64)
 }
 
 fn is_room(letter: u8) -> bool {
@@ -88,11 +81,10 @@ fn read_words(text: &[u8], form: &[u8], entries: &mut [u16]) -> Arguments {
         }
         let start = place + 1;
         let end = find(text, start, text.len(), b' ');
-        let word = argument(form[k], &text[start..end], k, entries);
-        if !word.good {
+        let Some(value) = argument(form[k], &text[start..end], k, entries) else {
             return arguments;
-        }
-        arguments.values[value_place(form[k], k)] = word.value;
+        };
+        arguments.values[value_place(form[k], k)] = value;
         place = end;
         k += 1;
     }
@@ -150,17 +142,12 @@ pub fn room(values: [u64; 16], i: usize, most: usize) -> usize
 pub fn marks_of(list: &[u16], marks: &mut [u8]) -> usize
     ensures { result ≤ length marks.old }
 {
-    let mut i: usize = 0;
-    while i < list.len() {
-        let x = list[i];
+    let most = list.len().min(marks.len());
+    for (i, &x) in list[..most].iter().enumerate() {
         if 255 < x {
             return i;
         }
-        if marks.len() <= i {
-            return i;
-        }
         marks[i] = x as u8;
-        i += 1;
     }
-    i
+    most
 }

@@ -15,14 +15,8 @@ pub fn show(run: &[u16; 54], list: &mut [u16]) -> Reply {
 // A run of such items, with zeros after them and in its other fields.
 fn with_items(items: &[u16]) -> [u16; 54] {
     let mut run = [0u16; 54];
-    let mut i: usize = 0;
-    while i < items.len() {
-        if 51 <= i {
-            return run;
-        }
-        run[3 + i] = items[i];
-        i += 1;
-    }
+    let count = items.len().min(51);
+    run[3..3 + count].copy_from_slice(&items[..count]);
     run
 }
 

@@ -61,14 +61,8 @@ fn move_to_front(input: &mut [u8], from: usize, have: usize) -> usize
     requires { (from ≤ have) × (have ≤ length input.old) }
     ensures { result ≤ have }
 {
-    let mut i: usize = 0;
-    let mut j = from;
-    while j < have {
-        input[i] = input[j];
-        i += 1;
-        j += 1;
-    }
-    i
+    input.copy_within(from..have, 0);
+    have - from
 }
 
 // The bytes that are left at the end of the input are a line, if there are any.

@@ -21,13 +21,11 @@ fn all_edges(rows: u64, n: u64) -> u64 {
 // How many items the words of a block have together: the sum of the first lengths, which never wraps.
 fn all_items(lengths: &[u16], rows: u64) -> u64 {
     let mut total: u64 = 0;
-    let mut i: usize = 0;
-    while i < lengths.len() {
+    for (i, &length) in lengths.iter().enumerate() {
         if rows <= i as u64 {
             return total;
         }
-        total = wrapping_add_u64(total, long(lengths[i]));
-        i += 1;
+        total = wrapping_add_u64(total, long(length));
     }
     total
 }
@@ -44,13 +42,7 @@ pub fn block(refusal: u16, rows: u64, edges: u16, lengths: &[u16]) -> Reply {
 
 // Copies a list to the beginning of another, as far as that is long enough, and returns how many entries it copied.
 pub fn copy_into(list: &[u16], out: &mut [u16]) -> u64 {
-    let mut i: usize = 0;
-    while i < list.len() {
-        if out.len() <= i {
-            return i as u64;
-        }
-        out[i] = list[i];
-        i += 1;
-    }
-    i as u64
+    let count = list.len().min(out.len());
+    out[..count].copy_from_slice(&list[..count]);
+    count as u64
 }

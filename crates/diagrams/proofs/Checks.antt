@@ -10,8 +10,10 @@ use Rattle.lists.specs.Lists.{at}
 use Rattle.lists.proofs.Tests.{same?, lt?}
 use Rattle.diagrams.specs.Diagram.{Maps, Diagram, Rooted}
 use Rattle.diagrams.specs.Check.{Size, Lengths, Root, Entries, Thrice, Twice, Connected, Accepts, Refuses, no_size, no_lengths, no-root, no-blacks, no-whites, no-thrice, no-twice, no-path, CheckPromise, Mapped, RootedMaps}
-use Rattle.diagrams.specs.declared.Verdict.{Verdict}
-use Rattle.diagrams.specs.declared.Verdict.TheVariants.{Accepted, Refused}
+use Rattle.std.specs.Prelude.{Result, Ok, Err}
+use Rattle.refusals.specs.declared.Refusal.{Refusal}
+use Rattle.refusals.specs.Numbers.{number}
+use Rattle.refusals.proofs.Numbers.{number-one}
 
 pub accepts-rooted : (s0 s1 : List ℕ) (root : ℕ) → Accepts s0 s1 root ↔ (Size s0 × Rooted s0 s1 root)
 accepts-rooted s0 s1 root = (to, from)
@@ -125,7 +127,7 @@ module _ (s0 s1 : List ℕ) (root : ℕ) where
       go (inl e) h = rw e b.1
       go (inr n) h = h (omega arith)
 
-  refused-once : (j k : ℕ) → Refuses s0 s1 root j → Refuses s0 s1 root k → j ≡ k
+  pub refused-once : (j k : ℕ) → Refuses s0 s1 root j → Refuses s0 s1 root k → j ≡ k
   refused-once j k a b = go (lt? j k) (lt? k j)
     where
       go : (j < k) ⊎ (k ≤ j) → (k < j) ⊎ (j ≤ k) → j ≡ k
@@ -143,8 +145,8 @@ module _ (s0 s1 : List ℕ) (root : ℕ) where
   pub not-both : (k : ℕ) → Accepts s0 s1 root → Refuses s0 s1 root k → ⊥
   not-both k a r = let l = refuses-most k r in (refused-at r).1 (before-asked 9 k (omega arith) (accepted-at a))
 
-  pub checked_once : (a b : Verdict) → CheckPromise s0 s1 root a → CheckPromise s0 s1 root b → a ≡ b
-  checked_once Accepted Accepted p q = refl
-  checked_once Accepted (Refused k) p q = absurd (not-both k p q)
-  checked_once (Refused j) Accepted p q = absurd (not-both j q p)
-  checked_once (Refused j) (Refused k) p q = ap Refused (refused-once j k p q)
+  pub checked_once : (a b : Result (Unit {0}) Refusal) → CheckPromise s0 s1 root a → CheckPromise s0 s1 root b → a ≡ b
+  checked_once (Ok u) (Ok v) p q = refl
+  checked_once (Ok u) (Err e) p q = absurd (not-both (number e) p q)
+  checked_once (Err e) (Ok u) p q = absurd (not-both (number e) q p)
+  checked_once (Err e) (Err d) p q = ap Err (number-one e d (refused-once (number e) (number d) p q))

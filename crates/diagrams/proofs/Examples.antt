@@ -1,4 +1,4 @@
--- Document 01, "Small sizes, by hand", (i): s0 1,2 with s1 1,2 is refused 8, since no step leaves edge 1.
+-- S0 1,2 with s1 1,2 is refused 8, since no step leaves edge 1.
 use mathlib.Core.Path.{◌≡◌, refl}
 use mathlib.Core.List.{List, [], ◌∷◌}
 use Prim.Native.Nat.{ℕ, zero, suc}

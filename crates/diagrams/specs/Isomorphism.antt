@@ -1,4 +1,4 @@
--- Isomorphism of diagrams (document 01, "Diagrams"), with roots and without. Only a map that carries s0 to s0 and s1 to s1 counts,
+-- Isomorphism of diagrams, with roots and without. Only a map that carries s0 to s0 and s1 to s1 counts,
 -- so orientation counts: a diagram and its mirror image, whose black map runs the other way round, need not be isomorphic.
 -- Rooted diagrams are isomorphic exactly if their subgroups of PSL2(Z) are equal; without roots, if the subgroups are conjugate.
 --

@@ -1,4 +1,3 @@
-pub mod Answers
 pub mod Diagram
 pub mod Isomorphism
 pub mod Check

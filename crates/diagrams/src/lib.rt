@@ -1,6 +1,6 @@
 // Trivalent diagrams: the type of a rooted diagram with its limits, and check, which says whether lent lists and a root are one.
 //
-// Check tests its conditions in document 01's order and answers the number of the first that fails, 1 to 8. It takes lists of any
+// Check tests its conditions in their order and answers the number of the first that fails, 1 to 8. It takes lists of any
 // length and any root, and its time is linear in the size: each edge is looked at a fixed number of times. Whoever labels the diagram
 // anyway needs no search for the eighth, that it is connected, and tests the first seven by check_maps.
 #![tactic(auto)]
@@ -14,13 +14,7 @@ use diagrams_entries::{entries_in, within};
 use diagrams_orders::{thrice, twice};
 use diagrams_search::{connected_in, lower_neighbours};
 use lists::fill;
-
-// What check answers: Refused holds document 01's number.
-#[derive(Drop)]
-pub enum Verdict {
-    Accepted,
-    Refused(u16),
-}
+use refusals::Refusal;
 
 // A rooted diagram held by value: its lists stand in the first size places, zeros after them.
 #[derive(Drop)]
@@ -31,10 +25,10 @@ pub struct Diagram {
     pub root: u16,
 }
 
-// What Diagram::checked answers.
+// What Diagram::checked answers. The diagram is not inside the Result, because CheckedDiagramPromise fixes it in a refusal too: the single edge.
 #[derive(Drop)]
 pub struct Made {
-    pub verdict: Verdict,
+    pub verdict: Result<(), Refusal>,
     pub diagram: Diagram,
 }
 
@@ -65,11 +59,11 @@ impl Diagram {
     {
         let verdict = check(s0, s1, root);
         match verdict {
-            Verdict::Accepted => Made {
+            Ok(()) => Made {
                 verdict,
                 diagram: held(s0, s1, root),
             },
-            Verdict::Refused(_) => Made {
+            Err(_) => Made {
                 verdict,
                 diagram: Diagram::single(),
             },
@@ -96,48 +90,43 @@ fn held(s0: &[u16], s1: &[u16], root: u64) -> Diagram
 
 // Whether the lent lists are maps of the edges 1..n and the root is an edge. 1 length of s0 is 0 or above 1,024; 2 lengths differ;
 // 3 root outside 1..n; 4 an s0 entry outside 1..n; 5 the same in s1; 6 s0 thrice moves an edge; 7 s1 twice does.
-pub fn check_maps(s0: &[u16], s1: &[u16], root: u64) -> Verdict
+pub fn check_maps(s0: &[u16], s1: &[u16], root: u64) -> Result<(), Refusal>
     ensures { MapsPromise s0.now s1.now root result }
 {
     let n = s0.len();
     if !within(n as u64, Diagram::MAX_SIZE) {
-        return Verdict::Refused(1);
+        return Err(Refusal::SizeOutOfRange);
     }
     if s1.len() != n {
-        return Verdict::Refused(2);
+        return Err(Refusal::ListsDiffer);
     }
     if !within(root, n) {
-        return Verdict::Refused(3);
+        return Err(Refusal::RootOutOfRange);
     }
     if !entries_in(s0) {
-        return Verdict::Refused(4);
+        return Err(Refusal::BlackOutOfRange);
     }
     if !entries_in(s1) {
-        return Verdict::Refused(5);
+        return Err(Refusal::WhiteOutOfRange);
     }
     if !thrice(s0) {
-        return Verdict::Refused(6);
+        return Err(Refusal::ThriceMoves);
     }
     if !twice(s1) {
-        return Verdict::Refused(7);
+        return Err(Refusal::TwiceMoves);
     }
-    Verdict::Accepted
+    Ok(())
 }
 
 // Whether the lent lists and root are a rooted diagram: 1 to 7 as check_maps; 8 not connected.
-pub fn check(s0: &[u16], s1: &[u16], root: u64) -> Verdict
+pub fn check(s0: &[u16], s1: &[u16], root: u64) -> Result<(), Refusal>
     ensures { CheckPromise s0.now s1.now root result }
 {
-    let maps = check_maps(s0, s1, root);
-    match maps {
-        Verdict::Refused(k) => Verdict::Refused(k),
-        Verdict::Accepted => {
-            if !connected(s0, s1) {
-                return Verdict::Refused(8);
-            }
-            Verdict::Accepted
-        }
+    check_maps(s0, s1, root)?;
+    if !connected(s0, s1) {
+        return Err(Refusal::NotConnected);
     }
+    Ok(())
 }
 
 // Up to this size the search has small arrays: clearing large ones would take longer than the search itself.

@@ -1,4 +1,4 @@
--- What check asks of a lent diagram, s0, s1 and root (document 01, "Check"), in 01's order: refusal k says that the k-th fails.
+-- What check asks of a lent diagram, s0, s1 and root, in the order of their numbers: refusal k says that the k-th fails.
 --
 --   Size, .., Connected   the eight conditions
 --   Mapped s0 s1          those that say of the lists that they are maps of the edges 1..n, with n at most 1,024

@@ -1,4 +1,4 @@
--- Trivalent diagrams (document 01, "Diagrams"). The black map f leads from each edge to the next one round its black vertex,
+-- Trivalent diagrams. The black map f leads from each edge to the next one round its black vertex,
 -- the white map g to the next one round its white vertex. In the field's terms a diagram is an oriented combinatorial map, or a
 -- transitive action of PSL2(Z) on n points: f and g, the lists s0 and s1, are permutations whose orders divide 3 and 2, by which two
 -- generators act on the cosets of a subgroup of index n. The root is the coset of the subgroup itself.

@@ -23,11 +23,8 @@ pub fn entries_in(s: &[u16]) -> bool
 {
     let n = s.len() as u16;
     let mut good = true;
-    let mut i: usize = 0;
-    while i < s.len() {
-        let x = s[i];
-        good = good & ((1 <= x) & (x <= n));
-        i += 1;
+    for &x in s {
+        good &= (1 <= x) & (x <= n);
     }
     good
 }
@@ -38,10 +35,8 @@ pub fn all_reached(marks: &[u8]) -> bool
     ensures { (result ≡ true) ↔ AllOne marks.now }
 {
     let mut all = true;
-    let mut i: usize = 0;
-    while i < marks.len() {
-        all = all & (marks[i] == 1);
-        i += 1;
+    for &mark in marks {
+        all &= mark == 1;
     }
     all
 }

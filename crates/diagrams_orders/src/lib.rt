@@ -22,28 +22,24 @@ pub fn thrice(s0: &[u16]) -> bool
     ensures { (result ≡ true) ↔ Thrice s0.now }
 {
     let n = s0.len();
-    let mut x: usize = 1;
-    while x <= n {
+    for x in 1..=n {
         if next(s0, next(s0, next(s0, x))) != x {
             return false;
         }
-        x += 1;
     }
     true
 }
 
-// Whether s1 twice gives every edge back.
+// Whether s1 twice gives every edge back. Not one function with `thrice`: a number of steps would be a loop within the loop.
 pub fn twice(s1: &[u16]) -> bool
     requires { Entries (length s1.now) s1.now }
     ensures { (result ≡ true) ↔ Twice s1.now }
 {
     let n = s1.len();
-    let mut x: usize = 1;
-    while x <= n {
+    for x in 1..=n {
         if next(s1, next(s1, x)) != x {
             return false;
         }
-        x += 1;
     }
     true
 }

@@ -19,12 +19,10 @@ pub fn lower_neighbours(s0: &[u16], s1: &[u16]) -> bool
     ensures { (result ≡ true) ↔ LowerNeighbours s0.now s1.now }
 {
     let n = s0.len();
-    let mut x: usize = 2;
-    while x <= n {
+    for x in 2..=n {
         if !has_lower(s0, s1, x) {
             return false;
         }
-        x += 1;
     }
     true
 }
@@ -52,6 +50,7 @@ pub fn connected_in(s0: &[u16], s1: &[u16], marks: &mut [u8], list: &mut [u16]) 
 {
     let mut count = reach(marks, list, 0, 1);
     let mut done: usize = 0;
+    // no range: the visits move the end
     while done < count {
         let k = to_index(list[done]);
         count = visit(s0, s1, marks, list, count, k);

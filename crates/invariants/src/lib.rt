@@ -7,23 +7,18 @@ ghost use Rattle.std.proofs.Math.IntN.{sub_ℕ};
 ghost use Rattle.diagrams.specs.Check.{Mapped};
 ghost use Rattle.invariants.specs.Promises.{MeasuredPromise, InvariantsPromise};
 
-use diagrams::{Verdict, check};
+use diagrams::check;
 use invariants_counting::{count_cycles, fixed};
 use lists::to_index;
+use refusals::Refusal;
 
-#[derive(Drop)]
+#[derive(Clone, Copy)]
 pub struct Numbers {
     pub e2: u16,
     pub e3: u16,
     pub c: u16,
     pub t: i32,
     pub level: u64,
-}
-
-#[derive(Drop)]
-pub enum Measured {
-    Known(Numbers),
-    Refused(u16),
 }
 
 // 12 + n - 3 e2 - 4 e3 - 6 c
@@ -36,8 +31,8 @@ fn t(n: usize, e2: usize, e3: usize, c: usize) -> i32
     plus as i32 - minus as i32
 }
 
-// The invariants of a diagram that is known to be one, or 62.
-fn measure(s0: &[u16], s1: &[u16]) -> Measured
+// The invariants of a diagram that is known to be one. Refuses a level of 2^64 or more.
+fn measure(s0: &[u16], s1: &[u16]) -> Result<Numbers, Refusal>
     requires { Mapped s0.now s1.now }
     ensures { MeasuredPromise s0.now s1.now result }
 {
@@ -46,11 +41,12 @@ fn measure(s0: &[u16], s1: &[u16]) -> Measured
     let cycles = count_cycles(s0, s1);
     let c = cycles.count;
     let level = cycles.level;
-    if level == 0 {
-        return Measured::Refused(62);
+    let outgrown = level == 0;
+    if outgrown {
+        return Err(Refusal::LevelTooLarge);
     }
     let t = t(s0.len(), to_index(e2), to_index(e3), to_index(c));
-    Measured::Known(Numbers {
+    Ok(Numbers {
         e2,
         e3,
         c,
@@ -59,13 +55,10 @@ fn measure(s0: &[u16], s1: &[u16]) -> Measured
     })
 }
 
-// The invariants of a lent diagram, or check's refusal, or 62.
-pub fn invariants(s0: &[u16], s1: &[u16], root: u64) -> Measured
+// The invariants of a lent diagram. Refuses what check refuses, then a level of 2^64 or more.
+pub fn invariants(s0: &[u16], s1: &[u16], root: u64) -> Result<Numbers, Refusal>
     ensures { InvariantsPromise s0.now s1.now root result }
 {
-    let verdict = check(s0, s1, root);
-    match verdict {
-        Verdict::Accepted => measure(s0, s1),
-        Verdict::Refused(k) => Measured::Refused(k),
-    }
+    check(s0, s1, root)?;
+    measure(s0, s1)
 }

@@ -15,7 +15,7 @@ use invariants_multiples::common_multiple;
 use lists::to_index;
 
 // How many cycles there are, and the least common multiple of their lengths; 0 stands for one of 2^64 or more.
-#[derive(Drop)]
+#[derive(Clone, Copy)]
 pub struct Cycles {
     pub count: u16,
     pub level: u64,
@@ -27,11 +27,8 @@ pub fn fixed(s: &[u16]) -> u16
     ensures { result ≡ fixed_points (length s.now) (at s.now) }
 {
     let mut count: u16 = 0;
-    let mut i: usize = 0;
-    while i < s.len() {
-        let x = to_index(s[i]);
-        i += 1;
-        if x == i {
+    for (i, &x) in s.iter().enumerate() {
+        if to_index(x) == i + 1 {
             count += 1;
         }
     }
@@ -77,12 +74,10 @@ pub fn count_cycles(s0: &[u16], s1: &[u16]) -> Cycles
     let mut seen = [0u8; Diagram::MAX_SIZE];
     let mut count: u16 = 0;
     let mut level: u64 = 1;
-    let mut i: usize = 0;
-    while i < s0.len() {
-        let mark = seen[i];
-        i += 1;
-        if mark != 1 {
-            let k = walk(s0, s1, &mut seen, i);
+    for i in 0..s0.len() {
+        let unmarked = seen[i] != 1;
+        if unmarked {
+            let k = walk(s0, s1, &mut seen, i + 1);
             count += 1;
             level = common_multiple(level, k as u64);
         }

@@ -7,8 +7,8 @@ use lib.ListN.{length, get_or}
 use Rattle.listing.specs.Listing.{count}
 use Rattle.listing.specs.Position.{word_at}
 use Rattle.run_answers.specs.declared.Run.{Run}
-use Rattle.run_answers.specs.declared.Stepping.{Stepping}
-use Rattle.run_answers.specs.declared.Stepping.TheVariants.{Length, End, Refused}
+use Rattle.std.specs.Prelude.{Option, Some, None, Result, Ok, Err}
+use Rattle.refusals.specs.declared.Refusal.{Refusal}
 use Rattle.run_steps.specs.Promises.{RunAt, RunFinished, run_after, finished, StepPromise}
 use Rattle.run_steps.proofs.Standing.{stands-size}
 use Rattle.kaldvemir_layout_run.specs.Layout.{run_of, run_numbers}
@@ -28,7 +28,7 @@ end-numbers l n p next e o = rw (e, ended-size n p (run_of l) o) refl
 given-numbers : (l : List ℕ) (n p m : ℕ) (next : Run) → next ≡ run_after n (suc p) → m ≡ length (word_at n (suc p)) → RunAt n p (run_of l) → get_or l 0 0 ∷ 1 ∷ m ∷ next.items ≡ run_numbers next
 given-numbers l n p m next e h S = rw (e, h, stands-size n p (run_of l) S) refl
 
-pub step_left : (l : List ℕ) (next : Run) (a0 a1 aw b0 b1 bw : List ℕ) (a : Stepping) → length l ≡ 54 → StepPromise (run_of l) next a0 a1 aw b0 b1 bw a → step_numbers a next.items l ≡ run_numbers next
-step_left l next a0 a1 aw b0 b1 bw (Length m) h s = given-numbers l s.0 s.1 m next s.5 s.6 s.2
-step_left l next a0 a1 aw b0 b1 bw End h s = end-numbers l s.0.0 (count s.0.0) next s.0.1 s.0.2
-step_left l next a0 a1 aw b0 b1 bw (Refused k) h s = sym (ap run_numbers s.1 ∙ run_again l h)
+pub step_left : (l : List ℕ) (next : Run) (a0 a1 aw b0 b1 bw : List ℕ) (a : Result (Option ℕ) Refusal) → length l ≡ 54 → StepPromise (run_of l) next a0 a1 aw b0 b1 bw a → step_numbers a next.items l ≡ run_numbers next
+step_left l next a0 a1 aw b0 b1 bw (Ok (Some m)) h s = given-numbers l s.0 s.1 m next s.5 s.6 s.2
+step_left l next a0 a1 aw b0 b1 bw (Ok None) h s = end-numbers l s.0.0 (count s.0.0) next s.0.1 s.0.2
+step_left l next a0 a1 aw b0 b1 bw (Err e) h s = sym (ap run_numbers s.1 ∙ run_again l h)

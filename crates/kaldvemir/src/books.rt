@@ -1,23 +1,23 @@
 // The share book, which lies with the caller as 100 numbers.
-ghost use Rattle.std.specs.Prelude.{◌≡◌};
+ghost use Rattle.std.specs.Prelude.{◌≡◌, Result};
+ghost use Rattle.refusals.specs.declared.Refusal.{Refusal};
 ghost use Rattle.book.specs.Calls.{open_answer, open_book, claim_answer, claim_book, commit_answer, commit_book, commit_range_answer, commit_range_book, release_answer, release_book, report_answer};
 ghost use Rattle.book.specs.Taken.{TakePromise};
 ghost use Rattle.book.specs.declared.types.Book.{Book};
-ghost use Rattle.book.specs.declared.types.Taking.{Taking};
+ghost use Rattle.book.specs.declared.types.Taken.{Taken};
 ghost use Rattle.kaldvemir_answers.specs.Answers as answers;
 ghost use Rattle.kaldvemir_layout_book.specs.Layout.{book_in, book_numbers};
 
-use kaldvemir_answers_book::{
-    claim_answer, commit_answer, open_answer, release_answer, report_answer, take_answer,
-};
+use kaldvemir_answers::{number_of, tell};
+use kaldvemir_answers_book::{tell_progress, tell_taken};
 
 // Nothing of the lent book is read, and it is written only where the opening is accepted.
 #[unsafe(no_mangle)]
 pub extern "C" fn kaldvemir_open(book: &mut [u64; 100], size: u64, shares: u64) -> u16
-    ensures { (result ≡ answers.opening_number (open_answer size shares))
+    ensures { (result ≡ answers.refusal_number (open_answer size shares))
         × (book.new ≡ book_numbers (open_book (book_in book.old) size shares)) }
 {
-    open_answer(kaldvemir_book::open(book, size, shares))
+    number_of(kaldvemir_book::open(book, size, shares))
 }
 
 #[unsafe(no_mangle)]
@@ -28,12 +28,11 @@ pub extern "C" fn kaldvemir_claim(
     length: u64,
     ticket: &mut u64,
 ) -> u16
-    ensures { (result ≡ answers.claiming_number (claim_answer (book_in book.old) tick share length))
-        × (ticket.new ≡ answers.claiming_ticket (claim_answer (book_in book.old) tick share length) ticket.old)
+    ensures { (result ≡ answers.refusal_number (claim_answer (book_in book.old) tick share length))
+        × (ticket.new ≡ answers.told_value (claim_answer (book_in book.old) tick share length) ticket.old)
         × (book.new ≡ book_numbers (claim_book (book_in book.old) tick share length)) }
 {
-    let a = kaldvemir_book::claim(book, tick, share, length);
-    claim_answer(a, ticket)
+    tell(kaldvemir_book::claim(book, tick, share, length), ticket)
 }
 
 #[unsafe(no_mangle)]
@@ -48,16 +47,16 @@ pub extern "C" fn kaldvemir_take(
     position: &mut u64,
     length: &mut u64,
 ) -> u16
-    ensures { (a : Taking) × (next : Book)
+    ensures { (a : Result Taken Refusal) × (next : Book)
         × TakePromise (book_in book.old) tick ticket s0.old s1.old word.old a next s0.new s1.new word.new
-        × (result ≡ answers.taking_number a)
+        × (result ≡ answers.refusal_number a)
         × (share.new ≡ answers.taking_share a share.old)
         × (position.new ≡ answers.taking_position a position.old)
         × (length.new ≡ answers.taking_length a length.old)
         × (book.new ≡ book_numbers next) }
 {
     let a = kaldvemir_book_take::take(book, tick, ticket, s0, s1, word);
-    take_answer(a, share, position, length)
+    tell_taken(a, share, position, length)
 }
 
 #[unsafe(no_mangle)]
@@ -67,10 +66,10 @@ pub extern "C" fn kaldvemir_commit(
     ticket: u64,
     position: u64,
 ) -> u16
-    ensures { (result ≡ answers.committing_number (commit_answer (book_in book.old) tick ticket position))
+    ensures { (result ≡ answers.refusal_number (commit_answer (book_in book.old) tick ticket position))
         × (book.new ≡ book_numbers (commit_book (book_in book.old) tick ticket position)) }
 {
-    commit_answer(kaldvemir_book_commit::commit(book, tick, ticket, position))
+    number_of(kaldvemir_book_commit::commit(book, tick, ticket, position))
 }
 
 #[unsafe(no_mangle)]
@@ -81,18 +80,18 @@ pub extern "C" fn kaldvemir_commit_range(
     first: u64,
     last: u64,
 ) -> u16
-    ensures { (result ≡ answers.committing_number (commit_range_answer (book_in book.old) tick ticket first last))
+    ensures { (result ≡ answers.refusal_number (commit_range_answer (book_in book.old) tick ticket first last))
         × (book.new ≡ book_numbers (commit_range_book (book_in book.old) tick ticket first last)) }
 {
-    commit_answer(kaldvemir_book_commit::commit_range(book, tick, ticket, first, last))
+    number_of(kaldvemir_book_commit::commit_range(book, tick, ticket, first, last))
 }
 
 #[unsafe(no_mangle)]
 pub extern "C" fn kaldvemir_release(book: &mut [u64; 100], tick: u64, ticket: u64) -> u16
-    ensures { (result ≡ answers.releasing_number (release_answer (book_in book.old) tick ticket))
+    ensures { (result ≡ answers.refusal_number (release_answer (book_in book.old) tick ticket))
         × (book.new ≡ book_numbers (release_book (book_in book.old) tick ticket)) }
 {
-    release_answer(kaldvemir_book::release(book, tick, ticket))
+    number_of(kaldvemir_book::release(book, tick, ticket))
 }
 
 #[unsafe(no_mangle)]
@@ -101,10 +100,10 @@ pub extern "C" fn kaldvemir_report(
     committed: &mut u64,
     complete: &mut u64,
 ) -> u16
-    ensures { (result ≡ answers.reporting_number (report_answer (book_in book.now)))
+    ensures { (result ≡ answers.refusal_number (report_answer (book_in book.now)))
         × (committed.new ≡ answers.reporting_committed (report_answer (book_in book.now)) committed.old)
         × (complete.new ≡ answers.reporting_complete (report_answer (book_in book.now)) complete.old) }
 {
     let a = kaldvemir_book::report(book);
-    report_answer(a, committed, complete)
+    tell_progress(a, committed, complete)
 }

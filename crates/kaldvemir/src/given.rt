@@ -1,25 +1,20 @@
 // Given diagrams, 1 to 1,024 edges.
-ghost use Rattle.std.specs.Prelude.{◌≡◌, ◌↔◌, true};
+ghost use Rattle.std.specs.Prelude.{◌≡◌, ◌↔◌, true, Result, ℕ, Bool};
+ghost use Rattle.refusals.specs.declared.Refusal.{Refusal};
+ghost use Rattle.labelling_answers.specs.declared.SideRefusal.{SideRefusal};
+ghost use Rattle.invariants.specs.declared.Numbers.{Numbers};
 ghost use Rattle.diagrams.specs.Check.{CheckPromise, AllOne};
-ghost use Rattle.diagrams.specs.declared.Verdict.{Verdict};
 ghost use Rattle.labelling_operations.specs.Promises.{RelabelPromise, CompareRootedPromise, CompareUnrootedPromise, SymmetriesPromise, KeptPromise};
-ghost use Rattle.labelling_answers.specs.declared.Relabelling.{Relabelling};
-ghost use Rattle.labelling_answers.specs.declared.Comparison.{Comparison};
-ghost use Rattle.labelling_answers.specs.declared.Symmetry.{Symmetry};
-ghost use Rattle.labelling_answers.specs.declared.KeepMark.{KeepMark};
 ghost use Rattle.invariants.specs.Promises.{InvariantsPromise};
-ghost use Rattle.invariants.specs.declared.Measured.{Measured};
 ghost use Rattle.kaldvemir_answers.specs.Answers as answers;
 
-use kaldvemir_answers::{
-    check_answer, compare_answer, invariants_answer, kept_answer, relabel_answer, symmetries_answer,
-};
+use kaldvemir_answers::{number_of, tell, tell_comparison, tell_invariants, tell_kept};
 
 #[unsafe(no_mangle)]
 pub extern "C" fn kaldvemir_check(s0: &[u16], s1: &[u16], root: u64) -> u16
-    ensures { (a : Verdict) × CheckPromise s0.now s1.now root a × (result ≡ answers.check_number a) }
+    ensures { (a : Result (Unit {0}) Refusal) × CheckPromise s0.now s1.now root a × (result ≡ answers.refusal_number a) }
 {
-    check_answer(diagrams::check(s0, s1, root))
+    number_of(diagrams::check(s0, s1, root))
 }
 
 #[unsafe(no_mangle)]
@@ -39,13 +34,13 @@ pub extern "C" fn kaldvemir_relabel(
     word: &mut [u16],
     length: &mut u64,
 ) -> u16
-    ensures { (a : Relabelling)
+    ensures { (a : Result ℕ Refusal)
         × RelabelPromise s0.now s1.now root t0.old t1.old word.old t0.new t1.new word.new a
-        × (result ≡ answers.relabel_number a)
-        × (length.new ≡ answers.relabel_length a length.old) }
+        × (result ≡ answers.refusal_number a)
+        × (length.new ≡ answers.told_value a length.old) }
 {
     let a = labelling_operations::relabel(s0, s1, root, t0, t1, word);
-    relabel_answer(a, length)
+    tell(a.map(u64::from), length)
 }
 
 #[unsafe(no_mangle)]
@@ -59,14 +54,14 @@ pub extern "C" fn kaldvemir_compare_rooted(
     same: &mut u64,
     side: &mut u64,
 ) -> u16
-    ensures { (a : Comparison)
+    ensures { (a : Result Bool SideRefusal)
         × CompareRootedPromise s0.now s1.now r t0.now t1.now q a
         × (result ≡ answers.compare_number a)
         × (same.new ≡ answers.compare_same a same.old)
         × (side.new ≡ answers.compare_side a side.old) }
 {
     let a = labelling_operations::compare_rooted(s0, s1, r, t0, t1, q);
-    compare_answer(a, same, side)
+    tell_comparison(a, same, side)
 }
 
 #[unsafe(no_mangle)]
@@ -80,36 +75,35 @@ pub extern "C" fn kaldvemir_compare_unrooted(
     same: &mut u64,
     side: &mut u64,
 ) -> u16
-    ensures { (a : Comparison)
+    ensures { (a : Result Bool SideRefusal)
         × CompareUnrootedPromise s0.now s1.now r t0.now t1.now q a
         × (result ≡ answers.compare_number a)
         × (same.new ≡ answers.compare_same a same.old)
         × (side.new ≡ answers.compare_side a side.old) }
 {
     let a = labelling_operations::compare_unrooted(s0, s1, r, t0, t1, q);
-    compare_answer(a, same, side)
+    tell_comparison(a, same, side)
 }
 
 #[unsafe(no_mangle)]
 pub extern "C" fn kaldvemir_symmetries(s0: &[u16], s1: &[u16], root: u64, count: &mut u64) -> u16
-    ensures { (a : Symmetry)
+    ensures { (a : Result ℕ Refusal)
         × SymmetriesPromise s0.now s1.now root a
-        × (result ≡ answers.symmetries_number a)
-        × (count.new ≡ answers.symmetries_count a count.old) }
+        × (result ≡ answers.refusal_number a)
+        × (count.new ≡ answers.told_value a count.old) }
 {
     let a = labelling_operations::symmetries(s0, s1, root);
-    symmetries_answer(a, count)
+    tell(a.map(u64::from), count)
 }
 
 #[unsafe(no_mangle)]
 pub extern "C" fn kaldvemir_kept(s0: &[u16], s1: &[u16], root: u64, kept: &mut u64) -> u16
-    ensures { (a : KeepMark)
+    ensures { (a : Result Bool Refusal)
         × KeptPromise s0.now s1.now root a
-        × (result ≡ answers.kept_number a)
+        × (result ≡ answers.refusal_number a)
         × (kept.new ≡ answers.kept_mark a kept.old) }
 {
-    let a = labelling_operations::kept(s0, s1, root);
-    kept_answer(a, kept)
+    tell_kept(labelling_operations::kept(s0, s1, root), kept)
 }
 
 #[unsafe(no_mangle)]
@@ -123,9 +117,9 @@ pub extern "C" fn kaldvemir_invariants(
     t: &mut i32,
     level: &mut u64,
 ) -> u16
-    ensures { (a : Measured)
+    ensures { (a : Result Numbers Refusal)
         × InvariantsPromise s0.now s1.now root a
-        × (result ≡ answers.invariants_number a)
+        × (result ≡ answers.refusal_number a)
         × (e2.new ≡ answers.invariants_e2 a e2.old)
         × (e3.new ≡ answers.invariants_e3 a e3.old)
         × (c.new ≡ answers.invariants_c a c.old)
@@ -133,5 +127,5 @@ pub extern "C" fn kaldvemir_invariants(
         × (level.new ≡ answers.invariants_level a level.old) }
 {
     let a = invariants::invariants(s0, s1, root);
-    invariants_answer(a, e2, e3, c, t, level)
+    tell_invariants(a, e2, e3, c, t, level)
 }

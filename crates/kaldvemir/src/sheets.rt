@@ -1,10 +1,10 @@
 // A sheet of words in one call.
-ghost use Rattle.std.specs.Prelude.{◌≡◌};
-ghost use Rattle.sheet.specs.declared.SheetAnswer.{SheetAnswer};
+ghost use Rattle.std.specs.Prelude.{◌≡◌, Result};
+ghost use Rattle.refusals.specs.declared.Refusal.{Refusal};
 ghost use Rattle.sheet.specs.Promises.{SheetPromise};
 ghost use Rattle.kaldvemir_answers.specs.Answers as answers;
 
-use kaldvemir_answers::sheet_answer;
+use kaldvemir_answers::number_of;
 
 #[unsafe(no_mangle)]
 pub extern "C" fn kaldvemir_sheet_positions(
@@ -12,10 +12,9 @@ pub extern "C" fn kaldvemir_sheet_positions(
     refusals: &mut [u16],
     positions: &mut [u64],
 ) -> u16
-    ensures { (a : SheetAnswer)
+    ensures { (a : Result (Unit {0}) Refusal)
         × SheetPromise sheet.now refusals.old positions.old refusals.new positions.new a
-        × (result ≡ answers.sheet_number a) }
+        × (result ≡ answers.refusal_number a) }
 {
-    let a = sheet_positions::sheet_positions(sheet, refusals, positions);
-    sheet_answer(a)
+    number_of(sheet_positions::sheet_positions(sheet, refusals, positions))
 }

@@ -1,13 +1,12 @@
 // Words.
-ghost use Rattle.std.specs.Prelude.{◌≡◌, cond, length};
+ghost use Rattle.std.specs.Prelude.{◌≡◌, cond, length, Result, ℕ};
+ghost use Rattle.refusals.specs.declared.Refusal.{Refusal};
 ghost use Rattle.words.specs.Order.{precedes};
 ghost use Rattle.words.specs.Letters.{LettersPromise};
-ghost use Rattle.words.specs.declared.Lettered.{Lettered};
 ghost use Rattle.words_reading.specs.Read.{reading_answer, ReadPromise};
-ghost use Rattle.words_reading.specs.declared.Reading.{Reading};
 ghost use Rattle.kaldvemir_answers.specs.Answers as answers;
 
-use kaldvemir_answers::{letters_answer, read_answer};
+use kaldvemir_answers::tell;
 use labelling_rootings::least::second_is_lesser;
 
 #[unsafe(no_mangle)]
@@ -17,13 +16,13 @@ pub extern "C" fn kaldvemir_read_word(
     s1: &mut [u16],
     size: &mut u64,
 ) -> u16
-    ensures { (a : Reading)
+    ensures { (a : Result ℕ Refusal)
         × ReadPromise (reading_answer word.now (length s0.old) (length s1.old)) a s0.old s1.old s0.new s1.new
-        × (result ≡ answers.read_number a)
-        × (size.new ≡ answers.read_size a size.old) }
+        × (result ≡ answers.refusal_number a)
+        × (size.new ≡ answers.told_value a size.old) }
 {
     let a = words_reading::read_word(word, s0, s1);
-    read_answer(a, size)
+    tell(a.map(u64::from), size)
 }
 
 // 1 where the first of two words is the smaller one or both are equal, 2 where the second is the smaller: which of the two `lesser` hands
@@ -40,11 +39,11 @@ pub extern "C" fn kaldvemir_lesser<'a>(first: &'a [u16], second: &'a [u16]) -> u
 
 #[unsafe(no_mangle)]
 pub extern "C" fn kaldvemir_letters(word: &[u16], letters: &mut [u8], length: &mut u64) -> u16
-    ensures { (a : Lettered)
+    ensures { (a : Result ℕ Refusal)
         × LettersPromise word.now letters.old a letters.new
-        × (result ≡ answers.letters_number a)
-        × (length.new ≡ answers.letters_length a length.old) }
+        × (result ≡ answers.refusal_number a)
+        × (length.new ≡ answers.told_value a length.old) }
 {
     let a = words::letters(word, letters);
-    letters_answer(a, length)
+    tell(a.map(|letters| letters as u64), length)
 }

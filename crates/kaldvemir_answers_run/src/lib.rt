@@ -3,24 +3,25 @@
 #![tactic(auto)]
 
 ghost use Rattle.std.specs.Prelude.{◌≡◌, length};
-ghost use Rattle.run_blocks_answers.specs.Answers.{list_number, list_rows};
-ghost use Rattle.run_answers.specs.Answers.{begin_number, step_number, step_length};
+ghost use Rattle.refusals.specs.Numbers.{refusal_number};
+ghost use Rattle.run_blocks_answers.specs.Answers.{list_rows};
+ghost use Rattle.run_answers.specs.Answers.{step_length};
 ghost use Rattle.kaldvemir_layout_run.specs.Layout.{begin_numbers};
 ghost use Rattle.kaldvemir_answers_run.specs.Runs.{FitsBegun, step_numbers, list_numbers, FitsRows};
 
 use kaldvemir_layout::long;
 use kaldvemir_layout_run::put_back;
-use run_answers::{Beginning, Run, Stepping};
-use run_blocks_answers::Listing;
+use refusals::Refusal;
+use run_answers::Run;
 
-pub fn begin_answer(a: Beginning, next: Run, run: &mut [u16; 54]) -> u16
+pub fn begin_answer(a: Result<(), Refusal>, next: Run, run: &mut [u16; 54]) -> u16
     requires { FitsBegun a next }
-    ensures { (result ≡ begin_number a) × (run.new ≡ begin_numbers a next run.old) }
+    ensures { (result ≡ refusal_number a) × (run.new ≡ begin_numbers a next run.old) }
 {
     let items = next.items;
     match a {
-        Beginning::Refused(k) => k,
-        Beginning::Begun => {
+        Err(refusal) => refusal.number(),
+        Ok(()) => {
             let mut numbers = [0u16; 54];
             numbers[0] = next.size as u16;
             put_back(&mut numbers, next.stage as u16, next.length as u16, items);
@@ -30,20 +31,25 @@ pub fn begin_answer(a: Beginning, next: Run, run: &mut [u16; 54]) -> u16
     }
 }
 
-pub fn step_answer(a: Stepping, items: [u16; 51], run: &mut [u16; 54], written: &mut u64) -> u16
+pub fn step_answer(
+    a: Result<Option<u16>, Refusal>,
+    items: [u16; 51],
+    run: &mut [u16; 54],
+    written: &mut u64,
+) -> u16
     requires { length run.old ≡ 54 }
-    ensures { (result ≡ step_number a)
+    ensures { (result ≡ refusal_number a)
         × (written.new ≡ step_length a written.old)
         × (run.new ≡ step_numbers a items run.old) }
 {
     match a {
-        Stepping::Refused(k) => k,
-        Stepping::End => {
+        Err(refusal) => refusal.number(),
+        Ok(None) => {
             put_back(run, 2, 0, items);
             *written = 0;
             0
         }
-        Stepping::Length(m) => {
+        Ok(Some(m)) => {
             put_back(run, 1, m, items);
             *written = long(m);
             0
@@ -51,16 +57,16 @@ pub fn step_answer(a: Stepping, items: [u16; 51], run: &mut [u16; 54], written: 
     }
 }
 
-pub fn list_answer(a: Listing, next: Run, run: &mut [u16; 54], given: &mut u64) -> u16
+pub fn list_answer(a: Result<u64, Refusal>, next: Run, run: &mut [u16; 54], given: &mut u64) -> u16
     requires { (length run.old ≡ 54) × FitsRows a next }
-    ensures { (result ≡ list_number a)
+    ensures { (result ≡ refusal_number a)
         × (given.new ≡ list_rows a given.old)
         × (run.new ≡ list_numbers a next run.old) }
 {
     let items = next.items;
     match a {
-        Listing::Refused(k) => k,
-        Listing::Rows(k) => {
+        Err(refusal) => refusal.number(),
+        Ok(k) => {
             put_back(run, next.stage as u16, next.length as u16, items);
             *given = k;
             0

@@ -5,10 +5,10 @@ ghost use Rattle.std.specs.Prelude.{◌≡◌};
 ghost use Rattle.book.specs.Calls.{commit_answer, commit_book, commit_range_answer, commit_range_book};
 ghost use Rattle.kaldvemir_layout_book.specs.Layout.{book_in, book_numbers};
 
-use book::Committing;
 use kaldvemir_layout_book::{change, expiries, heads, nexts, tickets};
+use refusals::Refusal;
 
-pub fn commit(book: &mut [u64; 100], tick: u64, ticket: u64, position: u64) -> Committing
+pub fn commit(book: &mut [u64; 100], tick: u64, ticket: u64, position: u64) -> Result<(), Refusal>
     ensures { (result ≡ commit_answer (book_in book.old) tick ticket position)
         × (book.new ≡ book_numbers (commit_book (book_in book.old) tick ticket position)) }
 {
@@ -34,7 +34,7 @@ pub fn commit_range(
     ticket: u64,
     first: u64,
     last: u64,
-) -> Committing
+) -> Result<(), Refusal>
     ensures { (result ≡ commit_range_answer (book_in book.old) tick ticket first last)
         × (book.new ≡ book_numbers (commit_range_book (book_in book.old) tick ticket first last)) }
 {

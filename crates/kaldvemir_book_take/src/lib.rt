@@ -6,8 +6,9 @@ ghost use Rattle.book.specs.Taken.{TakePromise};
 ghost use Rattle.book.specs.declared.types.Book.{Book};
 ghost use Rattle.kaldvemir_layout_book.specs.Layout.{book_in, book_numbers};
 
-use book::Taking;
+use book::Taken;
 use kaldvemir_layout_book::{change, expiries, heads, nexts, tickets};
+use refusals::Refusal;
 
 pub fn take(
     book: &mut [u64; 100],
@@ -16,7 +17,7 @@ pub fn take(
     s0: &mut [u16],
     s1: &mut [u16],
     word: &mut [u16],
-) -> Taking
+) -> Result<Taken, Refusal>
     ensures { (next : Book)
         × TakePromise (book_in book.old) tick ticket s0.old s1.old word.old result next s0.new s1.new word.new
         × (book.new ≡ book_numbers next) }

@@ -1,23 +1,21 @@
 // Runs. A run lies with the caller as 54 numbers.
-ghost use Rattle.std.specs.Prelude.{◌≡◌};
+ghost use Rattle.std.specs.Prelude.{◌≡◌, Result, ℕ, Option};
+ghost use Rattle.refusals.specs.declared.Refusal.{Refusal};
+ghost use Rattle.run_text.specs.declared.TextRows.{TextRows};
 ghost use Rattle.run_steps.specs.Promises.{BeginPromise, BeginAtPromise, StepPromise};
 ghost use Rattle.run_answers.specs.declared.Run.{Run};
-ghost use Rattle.run_answers.specs.declared.Beginning.{Beginning};
-ghost use Rattle.run_answers.specs.declared.Stepping.{Stepping};
 ghost use Rattle.run_blocks.specs.Promises.{ListPromise, ListMarkedPromise};
-ghost use Rattle.run_blocks_answers.specs.declared.Listing.{Listing};
 ghost use Rattle.run_text.specs.Answers as text;
 ghost use Rattle.run_text.specs.Promises.{RowsPromise};
-ghost use Rattle.run_text.specs.declared.RowsAnswer.{RowsAnswer};
 ghost use Rattle.kaldvemir_answers.specs.Answers as answers;
 ghost use Rattle.kaldvemir_layout_run.specs.Layout.{run_of, run_numbers};
 ghost use Rattle.kaldvemir_layout_run.specs.Layout as layout;
 
 #[unsafe(no_mangle)]
 pub extern "C" fn kaldvemir_begin(size: u64, run: &mut [u16; 54]) -> u16
-    ensures { (a : Beginning) × (next : Run)
+    ensures { (a : Result (Unit {0}) Refusal) × (next : Run)
         × BeginPromise size next a
-        × (result ≡ answers.begin_number a)
+        × (result ≡ answers.refusal_number a)
         × (run.new ≡ layout.begin_numbers a next run.old) }
 {
     kaldvemir::runs::kaldvemir_begin(size, run)
@@ -25,9 +23,9 @@ pub extern "C" fn kaldvemir_begin(size: u64, run: &mut [u16; 54]) -> u16
 
 #[unsafe(no_mangle)]
 pub extern "C" fn kaldvemir_begin_at(size: u64, position: u64, run: &mut [u16; 54]) -> u16
-    ensures { (a : Beginning) × (next : Run)
+    ensures { (a : Result (Unit {0}) Refusal) × (next : Run)
         × BeginAtPromise size position next a
-        × (result ≡ answers.begin_number a)
+        × (result ≡ answers.refusal_number a)
         × (run.new ≡ layout.begin_numbers a next run.old) }
 {
     kaldvemir::runs::kaldvemir_begin_at(size, position, run)
@@ -41,9 +39,9 @@ pub extern "C" fn kaldvemir_step(
     word: &mut [u16],
     written: &mut u64,
 ) -> u16
-    ensures { (a : Stepping) × (next : Run)
+    ensures { (a : Result (Option ℕ) Refusal) × (next : Run)
         × StepPromise (run_of run.old) next s0.old s1.old word.old s0.new s1.new word.new a
-        × (result ≡ answers.step_number a)
+        × (result ≡ answers.refusal_number a)
         × (written.new ≡ answers.step_length a written.old)
         × (run.new ≡ run_numbers next) }
 {
@@ -60,11 +58,11 @@ pub extern "C" fn kaldvemir_list(
     lengths: &mut [u16],
     given: &mut u64,
 ) -> u16
-    ensures { (a : Listing) × (next : Run)
+    ensures { (a : Result ℕ Refusal) × (next : Run)
         × ListPromise (run_of run.old) rows s0.old s1.old words.old lengths.old
         next s0.new s1.new words.new lengths.new a
-        × (result ≡ answers.list_number a)
-        × (given.new ≡ answers.list_rows a given.old)
+        × (result ≡ answers.refusal_number a)
+        × (given.new ≡ answers.told_value a given.old)
         × (run.new ≡ run_numbers next) }
 {
     kaldvemir::runs::kaldvemir_list(run, rows, s0, s1, words, lengths, given)
@@ -81,11 +79,11 @@ pub extern "C" fn kaldvemir_list_marked(
     marks: &mut [u8],
     given: &mut u64,
 ) -> u16
-    ensures { (a : Listing) × (next : Run)
+    ensures { (a : Result ℕ Refusal) × (next : Run)
         × ListMarkedPromise (run_of run.old) rows s0.old s1.old words.old lengths.old marks.old
         next s0.new s1.new words.new lengths.new marks.new a
-        × (result ≡ answers.list_number a)
-        × (given.new ≡ answers.list_rows a given.old)
+        × (result ≡ answers.refusal_number a)
+        × (given.new ≡ answers.told_value a given.old)
         × (run.new ≡ run_numbers next) }
 {
     kaldvemir::runs::kaldvemir_list_marked(run, rows, s0, s1, words, lengths, marks, given)
@@ -100,9 +98,9 @@ pub extern "C" fn kaldvemir_rows(
     written: &mut u64,
     kept: &mut u64,
 ) -> u16
-    ensures { (a : RowsAnswer) × (next : Run)
+    ensures { (a : Result TextRows Refusal) × (next : Run)
         × RowsPromise (run_of run.old) rows bytes.old next bytes.new a
-        × (result ≡ text.rows_number a)
+        × (result ≡ answers.refusal_number a)
         × (given.new ≡ text.rows_given a given.old)
         × (written.new ≡ text.rows_bytes a written.old)
         × (kept.new ≡ text.rows_kept a kept.old)

@@ -1,10 +1,9 @@
 // Words.
-ghost use Rattle.std.specs.Prelude.{◌≡◌, cond, length};
+ghost use Rattle.std.specs.Prelude.{◌≡◌, cond, length, Result, ℕ};
+ghost use Rattle.refusals.specs.declared.Refusal.{Refusal};
 ghost use Rattle.words.specs.Order.{precedes};
 ghost use Rattle.words.specs.Letters.{LettersPromise};
-ghost use Rattle.words.specs.declared.Lettered.{Lettered};
 ghost use Rattle.words_reading.specs.Read.{reading_answer, ReadPromise};
-ghost use Rattle.words_reading.specs.declared.Reading.{Reading};
 ghost use Rattle.kaldvemir_answers.specs.Answers as answers;
 
 #[unsafe(no_mangle)]
@@ -14,10 +13,10 @@ pub extern "C" fn kaldvemir_read_word(
     s1: &mut [u16],
     size: &mut u64,
 ) -> u16
-    ensures { (a : Reading)
+    ensures { (a : Result ℕ Refusal)
         × ReadPromise (reading_answer word.now (length s0.old) (length s1.old)) a s0.old s1.old s0.new s1.new
-        × (result ≡ answers.read_number a)
-        × (size.new ≡ answers.read_size a size.old) }
+        × (result ≡ answers.refusal_number a)
+        × (size.new ≡ answers.told_value a size.old) }
 {
     kaldvemir::spelling::kaldvemir_read_word(word, s0, s1, size)
 }
@@ -33,10 +32,10 @@ pub extern "C" fn kaldvemir_lesser<'a>(first: &'a [u16], second: &'a [u16]) -> u
 
 #[unsafe(no_mangle)]
 pub extern "C" fn kaldvemir_letters(word: &[u16], letters: &mut [u8], length: &mut u64) -> u16
-    ensures { (a : Lettered)
+    ensures { (a : Result ℕ Refusal)
         × LettersPromise word.now letters.old a letters.new
-        × (result ≡ answers.letters_number a)
-        × (length.new ≡ answers.letters_length a length.old) }
+        × (result ≡ answers.refusal_number a)
+        × (length.new ≡ answers.told_value a length.old) }
 {
     kaldvemir::spelling::kaldvemir_letters(word, letters, length)
 }

@@ -13,10 +13,8 @@ fn put_part(numbers: &mut [u64; 100], from: usize, list: &[u64; 32])
     requires { (length numbers.old ≡ 100) × (length list.now ≡ 32) × (from + 32 ≤ 100) }
     ensures { numbers.new ≡ paste numbers.old from list.now 32 }
 {
-    let mut i: usize = 0;
-    while i < 32 {
+    for i in 0..32 {
         numbers[from + i] = list[i];
-        i += 1;
     }
 }
 

@@ -14,10 +14,8 @@ fn items_of(numbers: &[u16; 54]) -> [u16; 51]
     ensures { result ≡ take 51 (drop 3 numbers.now) }
 {
     let mut items = [0u16; 51];
-    let mut i: usize = 0;
-    while i < 51 {
+    for i in 0..51 {
         items[i] = numbers[3 + i];
-        i += 1;
     }
     items
 }
@@ -27,10 +25,8 @@ fn put_items(numbers: &mut [u16; 54], items: &[u16; 51])
     requires { (length numbers.old ≡ 54) × (length items.now ≡ 51) }
     ensures { numbers.new ≡ paste numbers.old 3 items.now 51 }
 {
-    let mut i: usize = 0;
-    while i < 51 {
+    for i in 0..51 {
         numbers[3 + i] = items[i];
-        i += 1;
     }
 }
 

@@ -11,7 +11,9 @@ use Rattle.listing_ranking.proofs.Answers.{at_length}
 use Rattle.run_answers.specs.declared.Run.{Run}
 use Rattle.run_answers.specs.Promises.{RunAt, RunFinished, run_after}
 use Rattle.run_validity.proofs.Standing.{stands-size}
-use Rattle.run_text.specs.declared.RowsAnswer.TheVariants.{Rows, Refused}
+use Rattle.std.specs.Prelude.{Ok, Err}
+use Rattle.refusals.specs.declared.Refusal.{Refusal}
+use Rattle.run_text.specs.declared.TextRows.{TextRows}
 use Rattle.run_text.specs.Promises.{RowsPromise}
 use Rattle.kaldvemir_layout_run.specs.Layout.{run_of, run_numbers}
 use Rattle.kaldvemir_layout_run.proofs.Rows.{run_again}
@@ -36,12 +38,12 @@ pub fitting-numbers : (l : List ℕ) (next : Run) → Fitting l next → get_or 
 fitting-numbers l next f = rw f.size_same refl
 
 -- after rows
-pub rows-fitting : (l : List ℕ) (asked k m j : ℕ) (next : Run) (a b : List ℕ) → RowsPromise (run_of l) asked a next b (Rows k m j) → Fitting l next
-rows-fitting l asked k m j next a b (inl x) = over-fits l x.0.0 next x.0.1 x.2
-rows-fitting l asked k m j next a b (inr (n, p, R, r, e, T)) =
+pub rows-fitting : (l : List ℕ) (asked : ℕ) (t : TextRows) (next : Run) (a b : List ℕ) → RowsPromise (run_of l) asked a next b (Ok t) → Fitting l next
+rows-fitting l asked t next a b (inl x) = over-fits l x.0.0 next x.0.1 x.2
+rows-fitting l asked t next a b (inr (n, p, R, r, e, T)) =
     let w = R.within in
-    at-fits l n (p + k) next R.sized (omega arith) (stands-size n p (run_of l) R) T.next_is
+    at-fits l n (p + t.rows) next R.sized (omega arith) (stands-size n p (run_of l) R) T.next_is
 
 -- after a refusal
-pub rows-refused : (l : List ℕ) (asked k : ℕ) (next : Run) (a b : List ℕ) → length l ≡ 54 → RowsPromise (run_of l) asked a next b (Refused k) → l ≡ run_numbers next
-rows-refused l asked k next a b h P = sym (ap run_numbers P.1 ∙ run_again l h)
+pub rows-refused : (l : List ℕ) (asked : ℕ) (refusal : Refusal) (next : Run) (a b : List ℕ) → length l ≡ 54 → RowsPromise (run_of l) asked a next b (Err refusal) → l ≡ run_numbers next
+rows-refused l asked refusal next a b h P = sym (ap run_numbers P.1 ∙ run_again l h)

@@ -8,8 +8,9 @@ use lib.ListN.{length, get_or}
 use lib.Seq.{take_all}
 use Rattle.upto.specs.Upto.{total}
 use Rattle.upto_answers.specs.declared.UptoRun.{UptoRun}
-use Rattle.upto_answers.specs.declared.UptoStepping.{UptoStepping}
-use Rattle.upto_answers.specs.declared.UptoStepping.TheVariants.{Given, End, Refused}
+use Rattle.std.specs.Prelude.{Option, Some, None, Result, Ok, Err}
+use Rattle.refusals.specs.declared.Refusal.{Refusal}
+use Rattle.upto_answers.specs.declared.UptoGiven.{UptoGiven}
 use Rattle.upto_answers.specs.Promises.{finished_upto, UptoAt, UptoFinished, UptoStepPromise}
 use Rattle.upto_validity.proofs.Standing.{stands-visits}
 use Rattle.kaldvemir_layout_run.proofs.Rows.{run_again}
@@ -30,19 +31,19 @@ ended-visits n run (inl O) = ap (λ (r : UptoRun). r.visits) O.is
 ended-visits n run (inr T) = stands-visits n (total n) run T
 
 module _ (l : List ℕ) (v : ℕ) (next : UptoRun) (a0 a1 aw b0 b1 bw : List ℕ) where
-  abbrev Stepped : UptoStepping → Type 0
+  abbrev Stepped : Result (Option UptoGiven) Refusal → Type 0
   Stepped a = UptoStepPromise (upto_of l v) next a0 a1 aw b0 b1 bw a
 
-  pub left-refused : (k : ℕ) → length l ≡ 54 → Stepped (Refused k) → (l ≡ upto_numbers next) × (v ≡ next.visits)
-  left-refused k h s = (sym (ap upto_numbers s.1 ∙ run_again l h), sym (ap (λ (r : UptoRun). r.visits) s.1))
+  pub left-refused : (refusal : Refusal) → length l ≡ 54 → Stepped (Err refusal) → (l ≡ upto_numbers next) × (v ≡ next.visits)
+  left-refused refusal h s = (sym (ap upto_numbers s.1 ∙ run_again l h), sym (ap (λ (r : UptoRun). r.visits) s.1))
 
-  pub left_end : Stepped End → (get_or l 0 0 ∷ 2 ∷ 0 ∷ next.items ≡ upto_numbers next) × (v ≡ next.visits)
+  pub left_end : Stepped (Ok None) → (get_or l 0 0 ∷ 2 ∷ 0 ∷ next.items ≡ upto_numbers next) × (v ≡ next.visits)
   left_end s =
       let n = s.0.0 in
       (rw (s.0.1, ended-bound n (upto_of l v) s.0.2) refl, ended-visits n (upto_of l v) s.0.2 ∙ sym (ap (λ (r : UptoRun). r.visits) s.0.1))
 
-  pub left-given : (size m w : ℕ) → Stepped (Given size m w) → (get_or l 0 0 ∷ 1 ∷ m ∷ next.items ≡ upto_numbers next) × (w ≡ next.visits)
-  left-given size m w s =
+  pub left-given : (given : UptoGiven) → Stepped (Ok (Some given)) → (get_or l 0 0 ∷ 1 ∷ given.length ∷ next.items ≡ upto_numbers next) × (given.visits ≡ next.visits)
+  left-given given s =
       let G = s.2 in
       (rw (G.leaves, G.length_is, stands-bound s.0 s.1 (upto_of l v) G.stood) refl, G.visits_are ∙ sym (ap (λ (r : UptoRun). r.visits) G.leaves))
 

@@ -6,9 +6,8 @@
 --   upto_begin_numbers ..       the numbers after a beginning: the new run's, or, where it is refused, those that stood there
 --   upto_begin_visits ..        the visits after a beginning, likewise
 --   UptoLayoutInverse           numbers with visits, and a run (51 items), determine one another
-use Rattle.std.specs.Prelude.{◌≡◌, List, ◌∷◌, ℕ, length, get_or, take, drop}
-use Rattle.run_answers.specs.declared.Beginning.{Beginning}
-use Rattle.run_answers.specs.declared.Beginning.TheVariants.{Begun, Refused}
+use Rattle.std.specs.Prelude.{◌≡◌, List, ◌∷◌, ℕ, length, get_or, take, drop, Result, Ok, Err}
+use Rattle.refusals.specs.declared.Refusal.{Refusal}
 use Rattle.upto_answers.specs.declared.UptoRun.{UptoRun}
 
 abbrev pub upto_numbers : UptoRun → List ℕ
@@ -17,13 +16,13 @@ upto_numbers r = r.bound ∷ r.stage ∷ r.length ∷ r.items
 abbrev pub upto_of : List ℕ → ℕ → UptoRun
 upto_of l v = record { bound = get_or l 0 0; stage = get_or l 1 0; length = get_or l 2 0; visits = v; items = take 51 (drop 3 l) }
 
-abbrev pub upto_begin_numbers : Beginning → UptoRun → List ℕ → List ℕ
-upto_begin_numbers Begun run old = upto_numbers run
-upto_begin_numbers (Refused k) run old = old
+abbrev pub upto_begin_numbers : Result (Unit {0}) Refusal → UptoRun → List ℕ → List ℕ
+upto_begin_numbers (Ok u) run old = upto_numbers run
+upto_begin_numbers (Err e) run old = old
 
-abbrev pub upto_begin_visits : Beginning → UptoRun → ℕ → ℕ
-upto_begin_visits Begun run old = run.visits
-upto_begin_visits (Refused k) run old = old
+abbrev pub upto_begin_visits : Result (Unit {0}) Refusal → UptoRun → ℕ → ℕ
+upto_begin_visits (Ok u) run old = run.visits
+upto_begin_visits (Err e) run old = old
 
 pub record UptoLayoutInverse : Type 0 where
   pub again : (l : List ℕ) (v : ℕ) → length l ≡ 54 → (upto_numbers (upto_of l v) ≡ l) × ((upto_of l v).visits ≡ v)

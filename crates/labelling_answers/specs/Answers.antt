@@ -1,61 +1,46 @@
--- The answers of relabel, compare, symmetries and kept, as document 01 numbers them: a number is 01's of the refusal, 0 where the call is
--- accepted; a value is the answer's own, or `old` where the answer has no such value.
+-- The values of what relabel, compare, symmetries and kept answer: the answer's own, or `old` where the answer has no such value. The number of
+-- an answer is refusal_number of crate refusals; that of compare, whose refusal has a side, is here.
 --
---   relabel_number answer   1 to 9, or 0;  relabel_length, the word's length
---   compare_number answer   1 to 8, or 0;  compare_same, 1 the same and 0 different;  compare_side, a refusal's side
---   symmetries_number       1 to 8, or 0;  symmetries_count, their number
---   kept_number             1 to 8, or 0;  kept_mark, 1 kept and 0 not
-use Rattle.std.specs.Prelude.{ℕ}
-use Rattle.labelling_answers.specs.declared.Relabelling.{Relabelling}
-use Rattle.labelling_answers.specs.declared.Relabelling.TheVariants as relabelling
-use Rattle.labelling_answers.specs.declared.Comparison.{Comparison}
-use Rattle.labelling_answers.specs.declared.Comparison.TheVariants as comparison
-use Rattle.labelling_answers.specs.declared.Symmetry.{Symmetry}
-use Rattle.labelling_answers.specs.declared.Symmetry.TheVariants as symmetry
-use Rattle.labelling_answers.specs.declared.KeepMark.{KeepMark}
-use Rattle.labelling_answers.specs.declared.KeepMark.TheVariants as mark
-
-abbrev pub relabel_number : Relabelling → ℕ
-relabel_number (relabelling.Length m) = 0
-relabel_number (relabelling.Refused k) = k
+--   relabel_length answer old     the word's length
+--   side_number side              1 the first, 2 the second
+--   compare_number answer         1 to 8, or 0;  compare_same, 1 the same and 0 different;  compare_side, a refusal's side
+--   symmetries_count answer old   the number of symmetries
+--   kept_mark answer old          1 kept and 0 not
+use Rattle.std.specs.Prelude.{ℕ, Bool, cond, Result, Ok, Err}
+use Rattle.refusals.specs.declared.Refusal.{Refusal}
+use Rattle.refusals.specs.Numbers.{number}
+use Rattle.labelling_answers.specs.declared.Side.{Side}
+use Rattle.labelling_answers.specs.declared.Side.TheVariants as the
+use Rattle.labelling_answers.specs.declared.SideRefusal.{SideRefusal}
 
 -- the word's length
-abbrev pub relabel_length : Relabelling → ℕ → ℕ
-relabel_length (relabelling.Length m) old = m
-relabel_length (relabelling.Refused k) old = old
+abbrev pub relabel_length : Result ℕ Refusal → ℕ → ℕ
+relabel_length (Ok m) old = m
+relabel_length (Err e) old = old
 
-abbrev pub compare_number : Comparison → ℕ
-compare_number comparison.Same = 0
-compare_number comparison.Different = 0
-compare_number (comparison.Refused k side) = k
+abbrev pub side_number : Side → ℕ
+side_number the.First = 1
+side_number the.Second = 2
+
+abbrev pub compare_number : Result Bool SideRefusal → ℕ
+compare_number (Ok same) = 0
+compare_number (Err r) = number r.refusal
 
 -- 1 the same, 0 different
-abbrev pub compare_same : Comparison → ℕ → ℕ
-compare_same comparison.Same old = 1
-compare_same comparison.Different old = 0
-compare_same (comparison.Refused k side) old = old
+abbrev pub compare_same : Result Bool SideRefusal → ℕ → ℕ
+compare_same (Ok same) old = cond same 1 0
+compare_same (Err r) old = old
 
 -- a refusal's side
-abbrev pub compare_side : Comparison → ℕ → ℕ
-compare_side comparison.Same old = old
-compare_side comparison.Different old = old
-compare_side (comparison.Refused k side) old = side
+abbrev pub compare_side : Result Bool SideRefusal → ℕ → ℕ
+compare_side (Ok same) old = old
+compare_side (Err r) old = side_number r.side
 
-abbrev pub symmetries_number : Symmetry → ℕ
-symmetries_number (symmetry.Count m) = 0
-symmetries_number (symmetry.Refused k) = k
-
-abbrev pub symmetries_count : Symmetry → ℕ → ℕ
-symmetries_count (symmetry.Count m) old = m
-symmetries_count (symmetry.Refused k) old = old
-
-abbrev pub kept_number : KeepMark → ℕ
-kept_number mark.Yes = 0
-kept_number mark.No = 0
-kept_number (mark.Refused k) = k
+abbrev pub symmetries_count : Result ℕ Refusal → ℕ → ℕ
+symmetries_count (Ok m) old = m
+symmetries_count (Err e) old = old
 
 -- 1 kept, 0 not kept
-abbrev pub kept_mark : KeepMark → ℕ → ℕ
-kept_mark mark.Yes old = 1
-kept_mark mark.No old = 0
-kept_mark (mark.Refused k) old = old
+abbrev pub kept_mark : Result Bool Refusal → ℕ → ℕ
+kept_mark (Ok kept) old = cond kept 1 0
+kept_mark (Err e) old = old

@@ -1,5 +1,5 @@
--- What relabel, characteristic, compare, symmetries and kept promise (document 01, "Operations and what they turn away"), by the cases of their
--- answers, whose number and values are those of specs/Answers. Lists named a are as they were lent, lists named b as they are handed back.
+-- What relabel, characteristic, compare, symmetries and kept promise, by the cases of their answers. Lists named a are as
+-- they were lent, lists named b as they are handed back.
 --
 --   RelabelPromise ..           relabel: 1 to 8, then 9; the characteristic labelling and the word, before what else the lists held
 --   CharacteristicPromise ..    characteristic: check's verdict, with the characteristic labelling and root 1, or the single edge
@@ -8,51 +8,45 @@
 --   CompareUnrootedPromise ..   compare without roots
 --   SymmetriesPromise ..        symmetries
 --   KeptPromise ..              kept
-use Rattle.std.specs.Prelude.{◌≡◌, ◌⊎◌, Bool, true, false, List, ℕ, length}
+use Rattle.std.specs.Prelude.{◌≡◌, ◌⊎◌, Bool, true, false, List, ℕ, length, Result, Ok, Err}
+use Rattle.refusals.specs.declared.Refusal.{Refusal}
+use Rattle.refusals.specs.Numbers.{number}
 use Rattle.diagrams.specs.Check.{Accepts, Refuses}
 use Rattle.words.specs.Outputs.{Short, Written, Untouched}
 use Rattle.labelling.specs.Labelling.{word_of, characteristic}
 use Rattle.labelling.specs.Rootings.{Kept, symmetries}
 use Rattle.labelling_isomorphism.specs.Isomorphic.{IsomorphicBy}
 pub use Rattle.labelling_relabelling.specs.Promises.{CharacteristicPromise}
-use Rattle.labelling_answers.specs.declared.Relabelling.{Relabelling}
-use Rattle.labelling_answers.specs.declared.Relabelling.TheVariants as relabelling
-use Rattle.labelling_answers.specs.declared.Comparison.{Comparison}
-use Rattle.labelling_answers.specs.declared.Comparison.TheVariants as comparison
-use Rattle.labelling_answers.specs.declared.Symmetry.{Symmetry}
-use Rattle.labelling_answers.specs.declared.Symmetry.TheVariants as symmetry
-use Rattle.labelling_answers.specs.declared.KeepMark.{KeepMark}
-use Rattle.labelling_answers.specs.declared.KeepMark.TheVariants as mark
-use Rattle.labelling_answers.specs.Answers.{relabel_number, relabel_length, compare_number, compare_side, symmetries_number, symmetries_count, kept_number}
+use Rattle.labelling_answers.specs.declared.SideRefusal.{SideRefusal}
+use Rattle.labelling_answers.specs.Answers.{side_number}
 
-abbrev pub RelabelPromise : List ℕ → List ℕ → ℕ → List ℕ → List ℕ → List ℕ → List ℕ → List ℕ → List ℕ → Relabelling → Type 0
-RelabelPromise s0 s1 root a0 a1 aw b0 b1 bw (relabelling.Length m) =
-    Accepts s0 s1 root × (¬ Short (length s0) a0 a1 aw) × (relabel_length (relabelling.Length m) 0 ≡ length (word_of s0 s1 root)) × Written (characteristic s0 s1 root) (word_of s0 s1 root) a0 a1 aw b0 b1 bw
-RelabelPromise s0 s1 root a0 a1 aw b0 b1 bw (relabelling.Refused k) =
-    let number = relabel_number (relabelling.Refused k) in
-    (Refuses s0 s1 root number ⊎ ((number ≡ 9) × Accepts s0 s1 root × Short (length s0) a0 a1 aw)) × Untouched a0 a1 aw b0 b1 bw
+abbrev pub RelabelPromise : List ℕ → List ℕ → ℕ → List ℕ → List ℕ → List ℕ → List ℕ → List ℕ → List ℕ → Result ℕ Refusal → Type 0
+RelabelPromise s0 s1 root a0 a1 aw b0 b1 bw (Ok m) =
+    Accepts s0 s1 root × (¬ Short (length s0) a0 a1 aw) × (m ≡ length (word_of s0 s1 root)) × Written (characteristic s0 s1 root) (word_of s0 s1 root) a0 a1 aw b0 b1 bw
+RelabelPromise s0 s1 root a0 a1 aw b0 b1 bw (Err e) =
+    (Refuses s0 s1 root (number e) ⊎ ((number e ≡ 9) × Accepts s0 s1 root × Short (length s0) a0 a1 aw)) × Untouched a0 a1 aw b0 b1 bw
 
 -- 1 to 8 for the first, then for the second
 abbrev pub RefusedSide : List ℕ → List ℕ → ℕ → List ℕ → List ℕ → ℕ → ℕ → ℕ → Type 0
 RefusedSide s0 s1 r t0 t1 q k side = ((side ≡ 1) × Refuses s0 s1 r k) ⊎ ((side ≡ 2) × Accepts s0 s1 r × Refuses t0 t1 q k)
 
 -- with roots or without, by the first argument
-abbrev pub ComparePromise : Bool → List ℕ → List ℕ → ℕ → List ℕ → List ℕ → ℕ → Comparison → Type 0
-ComparePromise rooted s0 s1 r t0 t1 q comparison.Same = Accepts s0 s1 r × Accepts t0 t1 q × IsomorphicBy rooted s0 s1 r t0 t1 q
-ComparePromise rooted s0 s1 r t0 t1 q comparison.Different = Accepts s0 s1 r × Accepts t0 t1 q × (¬ IsomorphicBy rooted s0 s1 r t0 t1 q)
-ComparePromise rooted s0 s1 r t0 t1 q (comparison.Refused k side) = RefusedSide s0 s1 r t0 t1 q (compare_number (comparison.Refused k side)) (compare_side (comparison.Refused k side) 0)
+abbrev pub ComparePromise : Bool → List ℕ → List ℕ → ℕ → List ℕ → List ℕ → ℕ → Result Bool SideRefusal → Type 0
+ComparePromise rooted s0 s1 r t0 t1 q (Ok true) = Accepts s0 s1 r × Accepts t0 t1 q × IsomorphicBy rooted s0 s1 r t0 t1 q
+ComparePromise rooted s0 s1 r t0 t1 q (Ok false) = Accepts s0 s1 r × Accepts t0 t1 q × (¬ IsomorphicBy rooted s0 s1 r t0 t1 q)
+ComparePromise rooted s0 s1 r t0 t1 q (Err e) = RefusedSide s0 s1 r t0 t1 q (number e.refusal) (side_number e.side)
 
-abbrev pub CompareRootedPromise : List ℕ → List ℕ → ℕ → List ℕ → List ℕ → ℕ → Comparison → Type 0
+abbrev pub CompareRootedPromise : List ℕ → List ℕ → ℕ → List ℕ → List ℕ → ℕ → Result Bool SideRefusal → Type 0
 CompareRootedPromise = ComparePromise true
 
-abbrev pub CompareUnrootedPromise : List ℕ → List ℕ → ℕ → List ℕ → List ℕ → ℕ → Comparison → Type 0
+abbrev pub CompareUnrootedPromise : List ℕ → List ℕ → ℕ → List ℕ → List ℕ → ℕ → Result Bool SideRefusal → Type 0
 CompareUnrootedPromise = ComparePromise false
 
-abbrev pub SymmetriesPromise : List ℕ → List ℕ → ℕ → Symmetry → Type 0
-SymmetriesPromise s0 s1 root (symmetry.Count m) = Accepts s0 s1 root × (symmetries_count (symmetry.Count m) 0 ≡ symmetries s0 s1 root)
-SymmetriesPromise s0 s1 root (symmetry.Refused k) = Refuses s0 s1 root (symmetries_number (symmetry.Refused k))
+abbrev pub SymmetriesPromise : List ℕ → List ℕ → ℕ → Result ℕ Refusal → Type 0
+SymmetriesPromise s0 s1 root (Ok m) = Accepts s0 s1 root × (m ≡ symmetries s0 s1 root)
+SymmetriesPromise s0 s1 root (Err e) = Refuses s0 s1 root (number e)
 
-abbrev pub KeptPromise : List ℕ → List ℕ → ℕ → KeepMark → Type 0
-KeptPromise s0 s1 root mark.Yes = Accepts s0 s1 root × Kept s0 s1 root
-KeptPromise s0 s1 root mark.No = Accepts s0 s1 root × (¬ Kept s0 s1 root)
-KeptPromise s0 s1 root (mark.Refused k) = Refuses s0 s1 root (kept_number (mark.Refused k))
+abbrev pub KeptPromise : List ℕ → List ℕ → ℕ → Result Bool Refusal → Type 0
+KeptPromise s0 s1 root (Ok true) = Accepts s0 s1 root × Kept s0 s1 root
+KeptPromise s0 s1 root (Ok false) = Accepts s0 s1 root × (¬ Kept s0 s1 root)
+KeptPromise s0 s1 root (Err e) = Refuses s0 s1 root (number e)

@@ -1,33 +1,20 @@
-// What relabel, compare, symmetries and kept answer. The answers' numbers and values are in specs/Answers, and what each operation
-// promises in specs/Promises.
+// What relabel, compare, symmetries and kept answer: Relabel answers the length of the word written, compare whether the two diagrams are
+// isomorphic, symmetries their number and kept the keep mark, each a Result with the refusal. The values of the answers are in
+// specs/Answers, and what each operation promises in specs/Promises.
 #![tactic(auto)]
 
-// The length of the word written, or a refusal.
-#[derive(Drop)]
-pub enum Relabelling {
-    Length(u16),
-    Refused(u16),
+use refusals::Refusal;
+
+// Which of two diagrams.
+#[derive(Clone, Copy)]
+pub enum Side {
+    First,
+    Second,
 }
 
-// Isomorphic or not, or a refusal with the side that it concerns.
-#[derive(Drop)]
-pub enum Comparison {
-    Same,
-    Different,
-    Refused { number: u16, side: u16 },
-}
-
-// The number of symmetries, or a refusal.
-#[derive(Drop)]
-pub enum Symmetry {
-    Count(u16),
-    Refused(u16),
-}
-
-// The keep mark, or a refusal.
-#[derive(Drop)]
-pub enum KeepMark {
-    Yes,
-    No,
-    Refused(u16),
+// A refusal of compare, with the diagram that it concerns.
+#[derive(Clone, Copy)]
+pub struct SideRefusal {
+    pub refusal: Refusal,
+    pub side: Side,
 }

@@ -7,19 +7,13 @@ ghost use Rattle.diagrams.specs.Check.{RootedMaps};
 ghost use Rattle.labelling_code.specs.Scratch.{LabelsHeld};
 ghost use Rattle.labelling_check.specs.Promise.{LabelPromise};
 
-use diagrams::{Verdict, check_maps};
+use diagrams::check_maps;
 use labelling_code::writing::write_word;
 use lists::to_index;
 use pending_ring::clear;
+use refusals::Refusal;
 
-// The length of the word written, or a refusal.
-#[derive(Drop)]
-pub enum LabelAnswer {
-    Length(usize),
-    Refused(u16),
-}
-
-// Labels lists that are maps, from an edge: 8 where some edge gets no label.
+// Labels lists that are maps, from an edge, and returns the word's length: NotConnected where some edge gets no label.
 fn label_maps(
     s0: &[u16],
     s1: &[u16],
@@ -27,7 +21,7 @@ fn label_maps(
     labels: &mut [u16],
     order: &mut [u16],
     word: &mut [u16],
-) -> LabelAnswer
+) -> Result<usize, Refusal>
     requires rooted_maps { RootedMaps s0.now s1.now root }
     requires labels_held { LabelsHeld labels.old order.old 0 [] }
     requires s0_in_bounds { (length s0.now < length labels.old) × (length s0.now < length order.old) × (length s0.now < length word.old) }
@@ -47,13 +41,13 @@ fn label_maps(
         word,
     );
     if to_index(t.given) < s0.len() {
-        return LabelAnswer::Refused(8);
+        return Err(Refusal::NotConnected);
     }
-    LabelAnswer::Length(t.len)
+    Ok(t.len)
 }
 
-// Labels a diagram and writes its word, both into lent arrays with a place for each of 0..n; no edge has a label yet. Refuses 1 to 8 as
-// check does, and 8 with the word and the labels of what the root reaches left behind.
+// Labels a diagram and writes its word, both into lent arrays with a place for each of 0..n; no edge has a label yet. Returns the word's
+// length. Refuses as check does, and NotConnected with the word and the labels of what the root reaches left behind.
 pub fn check_and_label(
     s0: &[u16],
     s1: &[u16],
@@ -61,14 +55,11 @@ pub fn check_and_label(
     labels: &mut [u16],
     order: &mut [u16],
     word: &mut [u16],
-) -> LabelAnswer
+) -> Result<usize, Refusal>
     requires labels_held { LabelsHeld labels.old order.old 0 [] }
     requires s0_in_bounds { (length s0.now < length labels.old) × (length s0.now < length order.old) × (length s0.now < length word.old) }
     ensures { LabelPromise s0.now s1.now root labels.new order.new word.old word.new result }
 {
-    let maps = check_maps(s0, s1, root);
-    match maps {
-        Verdict::Refused(k) => LabelAnswer::Refused(k),
-        Verdict::Accepted => label_maps(s0, s1, root, labels, order, word),
-    }
+    check_maps(s0, s1, root)?;
+    label_maps(s0, s1, root, labels, order, word)
 }

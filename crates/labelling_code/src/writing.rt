@@ -12,7 +12,7 @@ use labelling_events::{begin, event};
 use lists::to_index;
 
 // How many items were written, and how many labels given meanwhile.
-#[derive(Drop)]
+#[derive(Clone, Copy)]
 pub struct Extent {
     pub len: usize,
     pub given: u16,
@@ -57,11 +57,8 @@ pub fn write_list(s: &[u16], labels: &[u16], order: &[u16], t: &mut [u16])
     ensures { (o : List ℕ) → LabelsHeld labels.now order.now (length s.now) o
         → t.new ≡ tabulate (relabel o (at s.now)) (length s.now) ++ drop (length s.now) t.old }
 {
-    let n = s.len();
-    let mut j: usize = 0;
-    while j < n {
+    for j in 0..s.len() {
         let x = follow(s, order[j + 1]);
         t[j] = labels[to_index(x)];
-        j += 1;
     }
 }

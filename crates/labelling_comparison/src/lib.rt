@@ -10,19 +10,20 @@ ghost use Rattle.labelling.specs.Labelling.{word_of};
 ghost use Rattle.labelling_tracing_events.specs.Stamps.{Below};
 ghost use Rattle.labelling_comparison.specs.Questions.{Askable, Answered, AskedPromise};
 
-use diagrams::{Diagram, Verdict, check_maps};
+use diagrams::{Diagram, check_maps};
 use labelling_rootings::{none_before, some_rooting};
 use labelling_symmetries::rootings_with;
 use labelling_tracing::{clear_stamps, has_word, own_word};
 use lists::to_index;
 use pending_ring::clear;
+use refusals::Refusal;
 
 // Diagrams up to this size are asked about in small arrays: clearing large ones would take longer than the labelling itself.
 const SMALL: usize = 64;
 
 // What is asked of a rooted diagram, given a word: whether its own word is the given one; whether some rooting's word is; how many
 // rootings' words are; whether no rooting's word comes before it.
-#[derive(Drop)]
+#[derive(Clone, Copy)]
 pub enum Question {
     Root,
     Any,
@@ -30,18 +31,11 @@ pub enum Question {
     Least,
 }
 
-// The answer to a question about a diagram's own word, or a refusal.
-#[derive(Drop)]
-pub enum Asked {
-    Answer(u16),
-    Refused(u16),
-}
-
 // An answer as a number: 1 for yes, 0 for no.
 fn number(yes: bool) -> u16
     ensures { (result ≡ 1) ↔ (yes ≡ true) }
 {
-    if yes { 1 } else { 0 }
+    u16::from(yes)
 }
 
 // Whether the diagram's own word is the given one.
@@ -149,8 +143,8 @@ pub fn ask(
     ask_in(s0, s1, r, t0, t1, q, question, &mut stamps, &mut word)
 }
 
-// Answers a question about lists that are maps, given their own word, in lent arrays with a place for each of 0..n: 8 where some edge gets
-// no label.
+// Answers a question about lists that are maps, given their own word, in lent arrays with a place for each of 0..n: NotConnected where
+// some edge gets no label.
 fn own_in(
     s0: &[u16],
     s1: &[u16],
@@ -158,7 +152,7 @@ fn own_in(
     question: Question,
     stamps: &mut [u16],
     word: &mut [u16],
-) -> Asked
+) -> Result<u16, Refusal>
     requires rooted_maps { RootedMaps s0.now s1.now root }
     requires below { Below (length s0.now) stamps.old 1 }
     requires s0_in_bounds { length s0.now < length word.old }
@@ -172,10 +166,10 @@ fn own_in(
     let n = s0.len();
     let given = to_index(written.given);
     if given < n {
-        return Asked::Refused(8);
+        return Err(Refusal::NotConnected);
     }
     let m = written.len;
-    Asked::Answer(answer(
+    Ok(answer(
         s0,
         s1,
         stamps,
@@ -188,7 +182,7 @@ fn own_in(
 }
 
 // The same, in arrays chosen by the size.
-fn own_maps(s0: &[u16], s1: &[u16], root: u64, question: Question) -> Asked
+fn own_maps(s0: &[u16], s1: &[u16], root: u64, question: Question) -> Result<u16, Refusal>
     requires { RootedMaps s0.now s1.now root }
     ensures { AskedPromise question s0.now s1.now root result }
 {
@@ -202,13 +196,10 @@ fn own_maps(s0: &[u16], s1: &[u16], root: u64, question: Question) -> Asked
     own_in(s0, s1, root, question, &mut stamps, &mut word)
 }
 
-// Answers a question about a diagram, given its own word. Refuses 1 to 8 as check does.
-pub fn ask_own(s0: &[u16], s1: &[u16], root: u64, question: Question) -> Asked
+// Answers a question about a diagram, given its own word. Refuses as check does.
+pub fn ask_own(s0: &[u16], s1: &[u16], root: u64, question: Question) -> Result<u16, Refusal>
     ensures { AskedPromise question s0.now s1.now root result }
 {
-    let maps = check_maps(s0, s1, root);
-    match maps {
-        Verdict::Refused(k) => Asked::Refused(k),
-        Verdict::Accepted => own_maps(s0, s1, root, question),
-    }
+    check_maps(s0, s1, root)?;
+    own_maps(s0, s1, root, question)
 }

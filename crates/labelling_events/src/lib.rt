@@ -14,7 +14,7 @@ use labelling_arrays::{add_triple, follow, give_label, join_counted};
 use lists::to_index;
 
 // An event's item, and how many labels are given and how many edges pending after it.
-#[derive(Drop)]
+#[derive(Clone, Copy)]
 pub struct EventItem {
     pub item: u16,
     pub given: u16,

@@ -1,34 +1,25 @@
-// Relabel: writes a lent diagram's characteristic labelling and its word. It refuses what check refuses (1 to 8), then a short output list (9).
+// Relabel: writes a lent diagram's characteristic labelling and its word. It refuses what check refuses, then a short output list.
 #![tactic(auto)]
 
 ghost use Rattle.std.specs.Prelude.{◌≡◌, ◌⊎◌, ◌↔◌, true, suc, ◌≤◌, ◌<◌, length};
 ghost use Rattle.diagrams.specs.Check.{Accepts};
 ghost use Rattle.labelling_answers.specs.Promises.{RelabelPromise};
 
-use diagrams::Verdict;
-use labelling_answers::Relabelling;
-use labelling_check::{LabelAnswer, check_and_label};
+use diagrams::check;
+use labelling_check::check_and_label;
 use labelling_code::writing::write_list;
 use labelling_relabelling::write_relabelled;
 use lists::fill;
+use refusals::Refusal;
 
 // Whether output lists of these lengths are short for n edges.
 fn short(n: usize, black: usize, white: usize, word: usize) -> bool
     ensures { (result ≡ true) ↔ ((black < n) ⊎ ((white < n) ⊎ (word < suc n))) }
 {
-    if black < n {
-        return true;
-    }
-    if white < n {
-        return true;
-    }
-    if word <= n {
-        return true;
-    }
-    false
+    black < n || white < n || word <= n
 }
 
-// Relabels a diagram that is accepted: 9 where an output list is short.
+// Relabels a diagram that is accepted.
 fn relabel_accepted(
     s0: &[u16],
     s1: &[u16],
@@ -36,19 +27,19 @@ fn relabel_accepted(
     t0: &mut [u16],
     t1: &mut [u16],
     word: &mut [u16],
-) -> Relabelling
+) -> Result<u16, Refusal>
     requires { Accepts s0.now s1.now root }
     ensures { RelabelPromise s0.now s1.now root t0.old t1.old word.old t0.new t1.new word.new result }
 {
     if short(s0.len(), t0.len(), t1.len(), word.len()) {
-        return Relabelling::Refused(9);
+        return Err(Refusal::ListShort);
     }
     let m = write_relabelled(s0, s1, root as u16, t0, t1, word);
-    Relabelling::Length(m as u16)
+    Ok(m as u16)
 }
 
-// Diagrams up to this size are labelled before it is known that they are connected, in small arrays: 8 comes before any output list is
-// written to, so the word is copied out of one of them.
+// Diagrams up to this size are labelled before it is known that they are connected, in small arrays: a refusal leaves every output
+// list as it was, so the word is copied out of one of them.
 const SMALL: usize = 64;
 
 // Relabels a small diagram.
@@ -59,26 +50,21 @@ fn relabel_small(
     t0: &mut [u16],
     t1: &mut [u16],
     word: &mut [u16],
-) -> Relabelling
+) -> Result<u16, Refusal>
     requires { length s0.now ≤ 64 }
     ensures { RelabelPromise s0.now s1.now root t0.old t1.old word.old t0.new t1.new word.new result }
 {
     let mut labels = [0u16; SMALL + 1];
     let mut order = [0u16; SMALL + 1];
     let mut items = [0u16; SMALL + 1];
-    let answer = check_and_label(s0, s1, root, &mut labels, &mut order, &mut items);
-    match answer {
-        LabelAnswer::Refused(k) => Relabelling::Refused(k),
-        LabelAnswer::Length(len) => {
-            if short(s0.len(), t0.len(), t1.len(), word.len()) {
-                return Relabelling::Refused(9);
-            }
-            fill(word, &items[..len]);
-            write_list(s0, &labels, &order, t0);
-            write_list(s1, &labels, &order, t1);
-            Relabelling::Length(len as u16)
-        }
+    let len = check_and_label(s0, s1, root, &mut labels, &mut order, &mut items)?;
+    if short(s0.len(), t0.len(), t1.len(), word.len()) {
+        return Err(Refusal::ListShort);
     }
+    fill(word, &items[..len]);
+    write_list(s0, &labels, &order, t0);
+    write_list(s1, &labels, &order, t1);
+    Ok(len as u16)
 }
 
 // Relabels a diagram of any size: once check has accepted it, its word goes straight into the list.
@@ -89,14 +75,11 @@ fn relabel_large(
     t0: &mut [u16],
     t1: &mut [u16],
     word: &mut [u16],
-) -> Relabelling
+) -> Result<u16, Refusal>
     ensures { RelabelPromise s0.now s1.now root t0.old t1.old word.old t0.new t1.new word.new result }
 {
-    let verdict = diagrams::check(s0, s1, root);
-    match verdict {
-        Verdict::Refused(k) => Relabelling::Refused(k),
-        Verdict::Accepted => relabel_accepted(s0, s1, root, t0, t1, word),
-    }
+    check(s0, s1, root)?;
+    relabel_accepted(s0, s1, root, t0, t1, word)
 }
 
 // Writes a diagram's characteristic labelling and its word, and returns the word's length.
@@ -107,7 +90,7 @@ pub fn relabel(
     t0: &mut [u16],
     t1: &mut [u16],
     word: &mut [u16],
-) -> Relabelling
+) -> Result<u16, Refusal>
     ensures { RelabelPromise s0.now s1.now root t0.old t1.old word.old t0.new t1.new word.new result }
 {
     if s0.len() <= SMALL {

@@ -9,7 +9,7 @@ ghost use Rattle.words.specs.Outputs.{Short, Written};
 ghost use Rattle.labelling.specs.Labelling.{word_of, characteristic};
 ghost use Rattle.labelling_relabelling.specs.Promises.{CharacteristicPromise};
 
-use diagrams::{Diagram, Made, Verdict, check};
+use diagrams::{Diagram, Made, check};
 use labelling_code::writing::{write_list, write_word};
 
 // Writes an accepted diagram's characteristic labelling and its word, and returns the word's length.
@@ -69,11 +69,11 @@ pub fn characteristic(s0: &[u16], s1: &[u16], root: u64) -> Made
 {
     let verdict = check(s0, s1, root);
     match verdict {
-        Verdict::Accepted => Made {
+        Ok(()) => Made {
             verdict,
             diagram: relabelled(s0, s1, root),
         },
-        Verdict::Refused(_) => Made {
+        Err(_) => Made {
             verdict,
             diagram: Diagram::single(),
         },

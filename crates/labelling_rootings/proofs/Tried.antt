@@ -1,9 +1,9 @@
--- The loops over the rootings: what the traces of the rootings 1..x have shown.
+-- The loops over the rootings: what the traces of the rootings below x have shown.
 use mathlib.Core.Path.{◌≡◌, refl, sym, ap, ◌∙◌}
 use mathlib.Core.Logic.{◌≢◌, ◌⊎◌, ◌↔◌, inl, inr}
 use mathlib.Core.Bool.{Bool, true, false, true≢false, cond}
 use mathlib.Core.List.{List, [], ◌∷◌}
-use Prim.Native.Nat.{ℕ, ◌+◌, ◌-◌, ◌≤◌, ◌<◌}
+use Prim.Native.Nat.{ℕ, ◌+◌, ◌-◌}
 use native.Mathlib.Omega.{arith}
 use native.Mathlib.Numerals.{add-one}
 use lib.Dec.{ltb}
@@ -11,8 +11,8 @@ use lib.ListN.{length, take, drop, length-drop}
 use lib.Seq.{take_all}
 use Rattle.lists.specs.Ranges.{OneTo, card}
 use Rattle.lists.proofs.Tests.{same?}
-use Rattle.words.specs.Order.{Before, precedes, same}
-use Rattle.words.proofs.Order.{precedes-true, precedes-false, same_self, same_false}
+use Rattle.words.specs.Order.{precedes, same}
+use Rattle.words.proofs.Order.{precedes-true, same_self, same_false}
 use Rattle.pending_ring.specs.Ring.{Ring}
 use Rattle.labelling.specs.Labelling.{word_of}
 use Rattle.labelling_tracing_events.specs.Stamps.{Below}
@@ -21,11 +21,10 @@ use Rattle.labelling_tracing.specs.Traced.{TracedAlong}
 use Rattle.labelling_least.proofs.Deciding.{decided-by-item, decided-by-end}
 use Rattle.labelling_rootings.specs.Among.{NoneBefore, SomeRooting}
 
--- x of the n rootings are tried; no edge is labelled in the next nor pending, and the stamps keep their length
+-- the next of the n rootings is x; no edge is labelled in it nor pending, and the stamps keep their length
 pub record Tried (s0 : List ℕ) (n : ℕ) (nx pv sp₀ sp : List ℕ) (x : ℕ) : Type 0 where
   pub size_is : n ≡ length s0
-  pub within : x ≤ n
-  pub fresh : Below (length s0) sp (x + 1)
+  pub fresh : Below (length s0) sp x
   pub empty : Ring nx pv []
   pub long : length sp ≡ length sp₀
 
@@ -40,25 +39,23 @@ each_more P x k p y e = go (same? y (x + 1))
 -- ---- none before
 
 module _ (s0 s1 own : List ℕ) (x : ℕ) where
-  pub none_more : ((y : ℕ) → OneTo x y → ¬ Before (word_of s0 s1 y) own) → precedes (word_of s0 s1 (x + 1)) own ≡ false → (y : ℕ) → OneTo (x + 1) y → ¬ Before (word_of s0 s1 y) own
-  none_more k e = each_more (λ y. ¬ Before (word_of s0 s1 y) own) x k (precedes-false (word_of s0 s1 (x + 1)) own e)
-
-  pub none-fails : x < length s0 → precedes (word_of s0 s1 (x + 1)) own ≡ true → ¬ NoneBefore s0 s1 own
+  pub none-fails : OneTo (length s0) x → precedes (word_of s0 s1 x) own ≡ true → ¬ NoneBefore s0 s1 own
   unfolding NoneBefore
-  none-fails h e k = k (x + 1) (omega arith) (precedes-true (word_of s0 s1 (x + 1)) own e)
+  none-fails h e k = k x h (precedes-true (word_of s0 s1 x) own e)
 
 -- ---- some rooting with this word
 
-module _ (s0 s1 own : List ℕ) (x : ℕ) (b : Bool) (is : (b ≡ true) ↔ (word_of s0 s1 (x + 1) ≡ own)) where
-  pub unlike-more : ((y : ℕ) → OneTo x y → word_of s0 s1 y ≢ own) → b ≡ false → (y : ℕ) → OneTo (x + 1) y → word_of s0 s1 y ≢ own
-  unlike-more k e = each_more (λ y. word_of s0 s1 y ≢ own) x k (λ q. true≢false (sym (is.1 q) ∙ e))
+module _ (s0 s1 own : List ℕ) (x : ℕ) (b : Bool) (is : (b ≡ true) ↔ (word_of s0 s1 x ≡ own)) where
+  pub unlike : b ≡ false → word_of s0 s1 x ≢ own
+  unlike e q = true≢false (sym (is.1 q) ∙ e)
 
-  pub some-found : x < length s0 → b ≡ true → SomeRooting s0 s1 own
+  pub some-found : OneTo (length s0) x → b ≡ true → SomeRooting s0 s1 own
   unfolding SomeRooting
-  some-found h e = (x + 1, omega arith, is.0 e)
+  some-found h e = (x, h, is.0 e)
 
-  -- ---- their number
+-- ---- their number
 
+module _ (s0 s1 own : List ℕ) (x : ℕ) (b : Bool) (is : (b ≡ true) ↔ (word_of s0 s1 (x + 1) ≡ own)) where
   same-is : same (word_of s0 s1 (x + 1)) own ≡ b
   same-is = go b is
     where

@@ -33,12 +33,8 @@ fn moves_all(s0: &[u16]) -> bool
     ensures { (result ≡ true) ↔ ((x : ℕ) → OneTo (length s0.now) x → at s0.now x ≢ x) }
 {
     let mut all = true;
-    let mut i: usize = 0;
-    while i < s0.len() {
-        let x = s0[i];
-        let edge = (i + 1) as u16;
-        all = all & (x != edge);
-        i += 1;
+    for (i, &x) in s0.iter().enumerate() {
+        all &= x != (i + 1) as u16;
     }
     all
 }
@@ -118,9 +114,7 @@ pub fn none_before(
     let fixed = fixes(s0, root);
     let n = s0.len();
     clear_stamps(stamps, n);
-    let mut x: usize = 0;
-    while x < n {
-        x += 1;
+    for x in 1..=n {
         if comes_before(s0, s1, stamps, next, prev, x as u16, root, fixed, own) {
             return false;
         }
@@ -145,9 +139,7 @@ pub fn some_rooting(
 {
     let n = s0.len();
     clear_stamps(stamps, n);
-    let mut x: usize = 0;
-    while x < n {
-        x += 1;
+    for x in 1..=n {
         if has_word(s0, s1, stamps, next, prev, x as u16, own) {
             return true;
         }

@@ -27,12 +27,8 @@ pub fn rootings_with(
     let n = s0.len();
     clear_stamps(stamps, n);
     let mut found: u16 = 0;
-    let mut x: usize = 0;
-    while x < n {
-        x += 1;
-        if has_word(s0, s1, stamps, next, prev, x as u16, own) {
-            found += 1;
-        }
+    for x in 1..=n {
+        found += u16::from(has_word(s0, s1, stamps, next, prev, x as u16, own));
     }
     found
 }

@@ -13,7 +13,7 @@ use Rattle.lists.proofs.Tests.{lt?, eqb-true, eqb-eq}
 use Rattle.labelling.specs.Labelling.{word_of}
 use Rattle.labelling_tracing.specs.declared.Traced.{Traced}
 use Rattle.labelling_tracing.specs.Traced.{Leaves, TracedAlong}
-use Rattle.labelling_tracing.proofs.Sofar.{Sofar, sofar-word, sofar-room, sofar-end}
+use Rattle.labelling_tracing.proofs.Sofar.{Sofar, sofar-word, sofar-end}
 
 -- the first `place` items are own's, and `item` stands after them
 pub record Tracked (s0 s1 : List ℕ) (root : ℕ) (sp nx pv : List ℕ) (c : ℕ) (own : List ℕ) (place item : ℕ) : Type 0 where
@@ -26,13 +26,6 @@ module _ {s0 s1 : List ℕ} {root : ℕ} {sp nx pv : List ℕ} {c : ℕ} {own : 
   tracked-item h =
       let l = h.0 in
       rw (add-one, take-suc own place 0, h.1) T.sofar
-
-  -- while an edge is pending, the word has room
-  pub tracked-room : (place < length own) × (get_or own place 0 ≡ item) → get_or nx 0 0 ≢ 0 → place < length s0
-  tracked-room h n =
-      let i = sofar-room (tracked-item h) n in
-      let l = length-take-le (place + 1) own (let k = h.0 in omega arith) in
-      omega arith
 
   -- own has ended, or has another item
   pub tracked-leaves : ¬ ((place < length own) × (get_or own place 0 ≡ item)) → TracedAlong s0 s1 root own record { place = place; item = item; ended = false }

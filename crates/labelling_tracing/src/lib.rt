@@ -14,15 +14,15 @@ ghost use Rattle.labelling_tracing.specs.Traced.{TracedAlong, WordWritten};
 use labelling_tracing_events::{begin, event};
 
 // Where a rooting's word leaves own: at a place where it has another item than own, or has ended.
-#[derive(Drop)]
+#[derive(Clone, Copy)]
 pub struct Traced {
     pub place: usize,
     pub item: u16,
     pub ended: bool,
 }
 
-// How many items a word has, and how many labels were given.
-#[derive(Drop)]
+// How many items a word has, and how many labels were given: as Extent of labelling_code, on which this crate does not stand.
+#[derive(Clone, Copy)]
 pub struct Written {
     pub len: usize,
     pub given: u16,
@@ -33,21 +33,7 @@ pub fn clear_stamps(stamps: &mut [u16], n: usize)
     requires { n < length stamps.old }
     ensures { Below n stamps.new 1 }
 {
-    let mut x: usize = 0;
-    while x < n {
-        x += 1;
-        stamps[x] = 0;
-    }
-}
-
-// Whether own has the item at place i.
-fn has_item(own: &[u16], i: usize, item: u16) -> bool
-    ensures { (result ≡ true) ↔ ((i < length own.now) × (get_or own.now i 0 ≡ item)) }
-{
-    if own.len() <= i {
-        return false;
-    }
-    own[i] == item
+    stamps[1..n + 1].fill(0);
 }
 
 // Labels from the rooting `root` until its word leaves own. The pending edges stay behind.
@@ -70,12 +56,17 @@ fn follow_own(
     let first = begin(s0, stamps, root, next, prev, root);
     let mut given = first.given;
     let mut item = first.item;
-    let mut place: usize = 0;
-    while has_item(own, place, item) {
-        place += 1;
-        if next[0] == 0 {
+    for (place, &expected) in own.iter().enumerate() {
+        if item != expected {
             return Traced {
                 place,
+                item,
+                ended: false,
+            };
+        }
+        if next[0] == 0 {
+            return Traced {
+                place: place + 1,
                 item,
                 ended: true,
             };
@@ -85,7 +76,7 @@ fn follow_own(
         item = done.item;
     }
     Traced {
-        place,
+        place: own.len(),
         item,
         ended: false,
     }

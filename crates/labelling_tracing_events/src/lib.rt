@@ -1,5 +1,8 @@
 // The labelling of a diagram, event by event, where of each edge only that it is labelled is kept: its stamp is then the number of the
 // labelling. A next labelling has a greater number, so that nothing is cleared between the two. The pending ring holds edges.
+//
+// No generic code with labelling_events: that keeps each edge's label, the edge of each label and the stack's height, this one stamp an edge, so
+// a trait would need a contract for each step.
 #![tactic(auto)]
 
 ghost use Rattle.std.specs.Prelude.{◌≡◌, List, [], ◌∷◌, ℕ, ◌<◌, length, set};
@@ -15,7 +18,7 @@ use labelling_arrays::{follow, join_pending};
 use lists::to_index;
 
 // An event's item, and how many labels are given after it.
-#[derive(Drop)]
+#[derive(Clone, Copy)]
 pub struct EventItem {
     pub item: u16,
     pub given: u16,

@@ -8,7 +8,7 @@ use crate::blocks::{ways_b, ways_f};
 use lists::to_index;
 
 // How many ways come before those with the item, and the height and the labels free after it.
-#[derive(Drop)]
+#[derive(Clone, Copy)]
 struct Block {
     before: u64,
     height: usize,
@@ -65,13 +65,11 @@ pub fn rank(items: &[u16], height: usize, free: usize) -> u64
     let mut place: u64 = 0;
     let mut h = height;
     let mut f = free;
-    let mut i: usize = 0;
-    while i < items.len() {
-        let block = pass(h, f, items[i]);
+    for &item in items {
+        let block = pass(h, f, item);
         place += block.before;
         h = block.height;
         f = block.free;
-        i += 1;
     }
     place
 }

@@ -7,7 +7,7 @@ ghost use Rattle.listing_places_ways.specs.Steps.{Chosen, Unranking};
 use crate::blocks::{ways_b, ways_f};
 
 // An event, with the height and the labels free after it, and the place among the ways to go on from there.
-#[derive(Drop)]
+#[derive(Clone, Copy)]
 pub struct Choice {
     pub item: u16,
     pub height: usize,
@@ -76,6 +76,7 @@ pub fn unrank(word: &mut [u16], next: usize, height: usize, free: usize, place: 
     let mut h = height;
     let mut f = free;
     let mut p = place;
+    // The height, and not the index, ends the loop.
     while 0 < h {
         let choice = choose(h, f, p);
         word[i] = choice.item;

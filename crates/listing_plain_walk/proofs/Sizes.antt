@@ -16,7 +16,7 @@ use Rattle.words.specs.Shape.{less1, less3}
 use Rattle.lists.proofs.Overwriting.{from-0, from-from}
 use Rattle.listing.specs.Listing.{prefix_each, completions, listing}
 use Rattle.listing_plain_walk.specs.Promises.{concatenated, PlainWalkPromise}
-use Rattle.listing_plain_walk.specs.declared.Walked.TheVariants.{Numbers}
+use Rattle.std.specs.Prelude.{Ok}
 use Rattle.listing_plain_walk.specs.Walk.{all_completions, concatenated_behind, WalkRoom, WalkAdded}
 use Rattle.listing_plain_walk_events.proofs.Rest.{rest-by}
 use Rattle.listing_plain_walk.proofs.Texts.{text-append, text-each}
@@ -82,7 +82,7 @@ module _ (n : ℕ) (e : OneTo 9 n) (out : List ℕ) (long : 1024 ≤ length out)
 
   module _ (w out' word' : List ℕ) (j : ℕ) (A : WalkAdded out 0 (0 ∷ w) 1 1 (n - 1) out' word' j) where
     -- the words of size 1 and of size 2 all begin with U
-    pub wrote_U : n < 3 → PlainWalkPromise n out out' (Numbers j)
+    pub wrote_U : n < 3 → PlainWalkPromise n out out' (Ok j)
     wrote_U l = rw (small-parts n e.0 l) (e, long, A.up_to ∙ zero-add _, A.written ∙ from-0 _ out)
 
     module _ (l : 3 ≤ n) (out_long : length out' ≡ length out) (word_long : length word' ≡ 16) where
@@ -97,7 +97,7 @@ module _ (n : ℕ) (e : OneTo 9 n) (out : List ℕ) (long : 1024 ≤ length out)
           let a = length-set word' 0 1 in
           record { places = omega arith; short = omega arith; room = rw first-T (omega (arith, both, listing-few n e, A.up_to)) }
 
-      pub wrote-both : (out'' word'' : List ℕ) (k : ℕ) → WalkAdded out' j (set word' 0 1) 1 3 (n - 3) out'' word'' k → PlainWalkPromise n out out'' (Numbers k)
+      pub wrote-both : (out'' word'' : List ℕ) (k : ℕ) → WalkAdded out' j (set word' 0 1) 1 3 (n - 3) out'' word'' k → PlainWalkPromise n out out'' (Ok k)
       wrote-both out'' word'' k B =
           let u = rw first-T at B.up_to in
           let v = rw first-T at B.written in

@@ -39,7 +39,6 @@ dead out i word len f n =
 
 -- the loop over the events: those below e are done with
 pub record Branched (out₀ : List ℕ) (i : ℕ) (word₀ : List ℕ) (len h f : ℕ) (out word : List ℕ) (j e : ℕ) : Type 0 where
-  pub events : e ≤ h + 3
   pub out_long : length out ≡ length out₀
   pub word_long : length word ≡ length word₀
   pub word_same : take len word ≡ take len word₀
@@ -50,7 +49,7 @@ pub branched-none : (out : List ℕ) (i : ℕ) (word : List ℕ) (len h f : ℕ)
 unfolding begun
 branched-none out i word len h f =
     let e : concatenated_behind (take len word) [] ≡ [] = text-none (take len word) in
-    record { events = omega arith; out_long = refl; word_long = refl; word_same = refl; up_to = rw e (sym (add-zero i)); written = rw e (sym (from-none i out)) }
+    record { out_long = refl; word_long = refl; word_same = refl; up_to = rw e (sym (add-zero i)); written = rw e (sym (from-none i out)) }
 
 pub branched-all : (out₀ : List ℕ) (i : ℕ) (word₀ : List ℕ) (len h f : ℕ) (out word : List ℕ) (j : ℕ) → Branched out₀ i word₀ len h f out word j (h + 3) → WalkAdded out₀ i word₀ len (suc h) f out word j
 branched-all out₀ i word₀ len h f out word j B = record { up_to = rw begun_all at B.up_to; written = rw begun_all at B.written; word_same = B.word_same }
@@ -98,7 +97,6 @@ module _ (out₀ : List ℕ) (i : ℕ) (word₀ : List ℕ) (len h f : ℕ) (out
   pub branched-more : (out' word' : List ℕ) (j' : ℕ) → length out' ≡ length out → length word' ≡ length (set word len e)
       → WalkAdded out j (set word len e) (len + 1) h' f' out' word' j' → Branched out₀ i word₀ len h f out' word' j' (e + 1)
   branched-more out' word' j' a b A = record {
-    events = omega arith;
     out_long = a ∙ B.out_long;
     word_long = b ∙ length-set word len e ∙ B.word_long;
     word_same = take_less len word' (set word len e) A.word_same ∙ take-set-le len word len e (omega arith) ∙ B.word_same;

@@ -8,12 +8,7 @@ ghost use Rattle.listing_plain_walk.specs.Walk.{WalkRoom, WalkAdded};
 
 use listing_plain_walk_events::after_event;
 use lists::fill_from;
-
-#[derive(Drop)]
-pub enum Walked {
-    Numbers(usize),
-    Refused(u16),
-}
+use refusals::Refusal;
 
 // Writes the first len items of word into out from a place on, and gives the place after them.
 fn write(out: &mut [u16], place: usize, word: &[u16], len: usize) -> usize
@@ -31,12 +26,10 @@ fn branch(out: &mut [u16], place: usize, word: &mut [u16], len: usize, h: u16, f
     ensures { WalkAdded out.old place word.old len (suc h) f out.new word.new result }
 {
     let mut end = place;
-    let mut e: u16 = 0;
-    while e < h + 3 {
+    for e in 0..h + 3 {
         let left = after_event(e, h, f);
         word[len] = e;
         end = end_or_pop(out, end, word, len + 1, left.h, left.f);
-        e += 1;
     }
     end
 }
@@ -48,7 +41,8 @@ fn end_or_pop(out: &mut [u16], place: usize, word: &mut [u16], len: usize, h: u1
     ensures { WalkAdded out.old place word.old len h f out.new word.new result }
 {
     if h == 0 {
-        if f == 0 {
+        let all_given = f == 0;
+        if all_given {
             write(out, place, word, len)
         } else {
             place
@@ -58,22 +52,23 @@ fn end_or_pop(out: &mut [u16], place: usize, word: &mut [u16], len: usize, h: u1
     }
 }
 
-// Writes all words of size n, one after another: those that begin with U, then those that begin with T.
-pub fn plain_walk(n: u64, out: &mut [u16]) -> Walked
+// Writes all words of size n, one after another: those that begin with U, then those that begin with T. Refuses
+// 35, a size outside 1..9, and 9, a list of fewer than 1,024 numbers.
+pub fn plain_walk(n: u64, out: &mut [u16]) -> Result<usize, Refusal>
     ensures { PlainWalkPromise n out.old out.new result }
 {
     if n < 1 || 9 < n {
-        return Walked::Refused(35);
+        return Err(Refusal::WalkSizeOutOfRange);
     }
     if out.len() < 1024 {
-        return Walked::Refused(9);
+        return Err(Refusal::ListShort);
     }
     let size = n as u16;
     let mut word = [0u16; 16];
     let end = end_or_pop(out, 0, &mut word, 1, 1, size - 1);
     if size < 3 {
-        return Walked::Numbers(end);
+        return Ok(end);
     }
     word[0] = 1;
-    Walked::Numbers(end_or_pop(out, end, &mut word, 1, 3, size - 3))
+    Ok(end_or_pop(out, end, &mut word, 1, 3, size - 3))
 }

@@ -5,7 +5,7 @@ ghost use Rattle.std.specs.Prelude.{◌+◌, ◌<◌};
 ghost use Rattle.listing_plain_walk_events.specs.Events.{LeadsTo};
 
 // The height of the stack and the number of labels free.
-#[derive(Drop)]
+#[derive(Clone, Copy)]
 pub struct Left {
     pub h: u16,
     pub f: u16,

@@ -4,26 +4,23 @@
 ghost use Rattle.std.specs.Prelude.{◌<◌, length};
 ghost use Rattle.listing_ranking.specs.Promises.{PositionPromise};
 
-use diagrams::{Diagram, Verdict};
-use labelling_check::{LabelAnswer, check_and_label};
+use diagrams::Diagram;
+use labelling_check::check_and_label;
 use listing_places::ranking::position_of;
-use listing_ranking::Place;
+use refusals::Refusal;
 
 // A diagram too large to be listed: 31, unless check refuses it.
-fn unlisted(s0: &[u16], s1: &[u16], root: u64) -> Place
+fn unlisted(s0: &[u16], s1: &[u16], root: u64) -> Result<u64, Refusal>
     requires { 50 < length s0.now }
     ensures { PositionPromise s0.now s1.now root result }
 {
-    let verdict = diagrams::check(s0, s1, root);
-    match verdict {
-        Verdict::Refused(k) => Place::Refused(k),
-        Verdict::Accepted => Place::Refused(31),
-    }
+    diagrams::check(s0, s1, root)?;
+    Err(Refusal::ListedSizeOutOfRange)
 }
 
 // The position of a diagram: that of its word among the words of its size. Refuses 1 to 8 as check does, then 31. The labelling serves for
 // check's search, and no list is relabelled.
-pub fn position(s0: &[u16], s1: &[u16], root: u64) -> Place
+pub fn position(s0: &[u16], s1: &[u16], root: u64) -> Result<u64, Refusal>
     ensures { PositionPromise s0.now s1.now root result }
 {
     let n = s0.len();
@@ -33,9 +30,6 @@ pub fn position(s0: &[u16], s1: &[u16], root: u64) -> Place
     let mut labels = [0u16; Diagram::MAX_LISTED + 1];
     let mut order = [0u16; Diagram::MAX_LISTED + 1];
     let mut word = [0u16; Diagram::MAX_LISTED + 1];
-    let answer = check_and_label(s0, s1, root, &mut labels, &mut order, &mut word);
-    match answer {
-        LabelAnswer::Refused(k) => Place::Refused(k),
-        LabelAnswer::Length(m) => Place::Number(position_of(n, &word[..m])),
-    }
+    let length = check_and_label(s0, s1, root, &mut labels, &mut order, &mut word)?;
+    Ok(position_of(n, &word[..length]))
 }

@@ -18,7 +18,6 @@ use Rattle.listing_successor_states.proofs.States.{fits_after, after-fits, word-
 
 -- after i items of w, read from h₀ and f₀ on, the state is h and f
 pub record Forth (h₀ f₀ : ℕ) (w : List ℕ) (i h f : ℕ) : Type 0 where
-  pub within : i ≤ length w
   pub small : h + f ≤ 50
   pub there : Fits h₀ f₀ w → Fits h f (drop i w)
   pub back : Fits h f (drop i w) → Fits h₀ f₀ w
@@ -26,7 +25,6 @@ pub record Forth (h₀ f₀ : ℕ) (w : List ℕ) (i h f : ℕ) : Type 0 where
 module _ (h₀ f₀ : ℕ) (w : List ℕ) (i h f : ℕ) (R : Forth h₀ f₀ w i h f) where
   pub forth-more : (l : StackState) → i < length w → l ≡ state_after_item h f (get_or w i 0) → Forth h₀ f₀ w (i + 1) l.height l.free
   forth-more l k e = rw (e, add-one) record {
-    within = omega arith;
     small = after_small 50 h f (get_or w i 0) (omega arith) R.small;
     there = λ a. fits_after h f (get_or w i 0) (drop (suc i) w) (rw (drop-cons w i 0 k) at (R.there a));
     back = λ a. R.back (rw (drop-cons w i 0 k) (after-fits h f (get_or w i 0) (drop (suc i) w) a));

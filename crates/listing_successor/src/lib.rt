@@ -14,14 +14,14 @@ use listing_successor_events::{can_end, least_above};
 use listing_successor_states::{StackState, stack_state, state_after_first, state_after_item};
 
 // A word in the first places of 51, with zeros after it.
-#[derive(Drop)]
+#[derive(Clone, Copy)]
 pub struct Held {
     pub length: usize,
     pub items: [u16; 51],
 }
 
 // An item that can be raised: at `place` the event `event` takes its place and leads to a state. Event 0: no item can.
-#[derive(Drop)]
+#[derive(Clone, Copy)]
 struct Raise {
     place: usize,
     event: u16,
@@ -53,12 +53,10 @@ fn fits(items: &[u16], height: u16, free: u16) -> bool
 {
     let mut h = height;
     let mut f = free;
-    let mut i: usize = 0;
-    while i < items.len() {
-        let l = state_after_item(h, f, items[i]);
+    for &item in items {
+        let l = state_after_item(h, f, item);
         h = l.height;
         f = l.free;
-        i += 1;
     }
     if h == 0 {
         return f == 0;
@@ -85,15 +83,14 @@ fn last_raise(items: &[u16]) -> Raise
 {
     let mut h: u16 = 0;
     let mut f: u16 = 0;
-    let mut i = items.len();
-    while 0 < i {
-        let x = items[i - 1];
+    for i in (0..items.len()).rev() {
+        let x = items[i];
         let l = state_before(h, f, x);
         let e = least_above(l.height, l.free, x);
         if 0 < e {
             let t = state_after_item(l.height, l.free, e);
             return Raise {
-                place: i - 1,
+                place: i,
                 event: e,
                 height: t.height,
                 free: t.free,
@@ -101,7 +98,6 @@ fn last_raise(items: &[u16]) -> Raise
         }
         h = l.height;
         f = l.free;
-        i -= 1;
     }
     Raise {
         place: 0,

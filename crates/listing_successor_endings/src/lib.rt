@@ -11,7 +11,7 @@ use listing_successor_states::{state_after_first, state_after_item};
 use lists::fill;
 
 // The word that follows a word, in the first places of 51 with zeros after it, and how many items both begin with.
-#[derive(Drop)]
+#[derive(Clone, Copy)]
 pub struct Next {
     pub shared: usize,
     pub length: usize,
@@ -26,6 +26,7 @@ fn end_word(items: &mut [u16; 51], place: usize, height: u16, free: u16) -> usiz
     let mut i = place;
     let mut h = height;
     let mut f = free;
+    // The height, and not the index, ends the loop.
     while h != 0 {
         let e = least_event(h, f);
         items[i] = e;

@@ -5,7 +5,7 @@ ghost use Rattle.std.specs.Prelude.{◌≡◌, ◌+◌, ◌≤◌};
 ghost use Rattle.listing_successor_states.specs.States.{stack_state, dead_end, state_after_item, state_after_first};
 
 // How many labels are pending, and how many are still free.
-#[derive(Drop)]
+#[derive(Clone, Copy)]
 pub struct StackState {
     pub height: u16,
     pub free: u16,

@@ -34,6 +34,7 @@ fn draw(
     let mut h = height;
     let mut f = free;
     let mut p = place;
+    // The height, and not the index, ends the loop.
     while 0 < h {
         let choice = choose(h, f, p);
         word[i] = choice.item;

@@ -16,6 +16,3 @@ written-length d p i e h = simp (length-append, length-drop) (omega arith)
 -- the entries so far are those of a source s
 pub copied_more : (d s : List ℕ) (i : ℕ) → i < length d → i < length s → set (take i s ++ drop i d) i (get_or s i 0) ≡ take (i + 1) s ++ drop (i + 1) d
 copied_more d s i hd hs = written-more d (take i s) i (get_or s i 0) (length-take-le i s (omega arith)) hd ∙ rw (add-one, take-suc s i 0 hs)
-
-pub copied-length : (d s : List ℕ) (n : ℕ) → n ≤ length d → n ≤ length s → length (take n s ++ drop n d) ≡ length d
-copied-length d s n hd hs = written-length d (take n s) n (length-take-le n s hs) hd

@@ -32,11 +32,7 @@ pub fn fill(dst: &mut [u16], src: &[u16])
     if dst.len() < n {
         return;
     }
-    let mut i: usize = 0;
-    while i < n {
-        dst[i] = src[i];
-        i += 1;
-    }
+    dst[..n].copy_from_slice(src);
 }
 
 // Writes src over dst from a place on.

@@ -1,4 +1,4 @@
--- The pending edges as a doubly linked ring with the sentinel 0 (document 01, "Labelling and words"): two arrays of 1,025 links.
+-- The pending edges as a doubly linked ring with the sentinel 0: two arrays of 1,025 links.
 -- The stack of pending labels, its top first, is an ordinary list; the arrays hold it.
 --
 --   Linked nx pv a s b   the links lead from a through the list s to b, and back

@@ -70,6 +70,7 @@ pub fn depth(next: &[u16; 1025], l: u16) -> usize
 {
     let mut index: usize = 0;
     let mut d: usize = 0;
+    // no range: the walk ends where it comes to l
     while next[index] != l {
         let below = next[index];
         index = to_index(below);
@@ -87,6 +88,7 @@ pub fn depth_between(next: &[u16; 1025], prev: &[u16; 1025], l: u16, height: usi
     let mut down: usize = 0;
     let mut up: usize = 0;
     let mut i: usize = 0;
+    // no range: the walks end where one of them comes to l
     while next[down] != l {
         if prev[up] == l {
             return height - 1 - i;
@@ -106,11 +108,9 @@ fn label_at(next: &[u16; 1025], d: usize) -> u16
     ensures { (pv s : List ℕ) → Ring next.now pv s → d < length s → result ≡ get_or s d 0 }
 {
     let mut index: usize = 0;
-    let mut i: usize = 0;
-    while i < d {
+    for _ in 0..d {
         let below = next[index];
         index = to_index(below);
-        i += 1;
     }
     next[index]
 }

@@ -38,9 +38,7 @@ fn take_back(
         → TakenBack n (take l items.now) result.place result.event stack.new popped.now s0 s1.new result.used result.height }
 {
     let mut m = LabelCounts { used: n, height: 0 };
-    let mut i = l;
-    while 1 < i {
-        i -= 1;
+    for i in (1..l).rev() {
         m = undo_event(items, i, stack, popped, s1, m);
         let h = m.height;
         let used = m.used;

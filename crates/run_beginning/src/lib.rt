@@ -6,7 +6,8 @@ ghost use Rattle.lists.specs.Ranges.{OneTo};
 ghost use Rattle.run_answers.specs.Promises.{BeginPromise};
 
 use diagrams::Diagram;
-use run_answers::{Beginning, Begun, Run};
+use refusals::Refusal;
+use run_answers::{Begun, Run};
 
 // A run that is at no diagram.
 pub fn empty(size: u64, stage: u64) -> Run
@@ -36,12 +37,12 @@ pub fn begin(n: u64) -> Begun
 {
     if listed(n) {
         return Begun {
-            answer: Beginning::Begun,
+            answer: Ok(()),
             run: empty(n, 0),
         };
     }
     Begun {
-        answer: Beginning::Refused(31),
+        answer: Err(Refusal::ListedSizeOutOfRange),
         run: empty(0, 0),
     }
 }

@@ -11,7 +11,8 @@ ghost use Rattle.run_answers.specs.Promises.{at_word, BeginAtPromise};
 use diagrams::Diagram;
 use listing_places::count_of;
 use listing_places::unranking::word_at;
-use run_answers::{Beginning, Begun, Run};
+use refusals::Refusal;
+use run_answers::{Begun, Run};
 use run_beginning::{empty, listed};
 
 // The run that is at the diagram at a position that there is.
@@ -35,24 +36,24 @@ pub fn begin_at(n: u64, p: u64) -> Begun
 {
     if !listed(n) {
         return Begun {
-            answer: Beginning::Refused(31),
+            answer: Err(Refusal::ListedSizeOutOfRange),
             run: empty(0, 0),
         };
     }
     if count_of(n) < p {
         return Begun {
-            answer: Beginning::Refused(32),
+            answer: Err(Refusal::PositionOutOfRange),
             run: empty(0, 0),
         };
     }
     if p == 0 {
         return Begun {
-            answer: Beginning::Begun,
+            answer: Ok(()),
             run: empty(n, 0),
         };
     }
     Begun {
-        answer: Beginning::Begun,
+        answer: Ok(()),
         run: at_position(n, p),
     }
 }

@@ -4,6 +4,6 @@
 // the keep mark of each diagram comes too.
 #![tactic(auto)]
 
-pub use run_blocks_answers::{Listed, Listing};
+pub use run_blocks_answers::Listed;
 pub use run_blocks_list::list;
 pub use run_blocks_marked::list_marked;

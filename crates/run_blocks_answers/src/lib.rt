@@ -1,23 +1,19 @@
-// What a listing in blocks answers, and the tests before its first row, of the run and of the output lists. The answers' numbers and values are in specs/Answers, what the two
-// operations promise in specs/Promises.
+// What a listing in blocks answers, and the tests before its first row, of the run and of the output lists. The answer's value is in specs/Answers,
+// what the two operations promise in specs/Promises.
 #![tactic(auto)]
 
 ghost use Rattle.std.specs.Prelude.{◌≡◌, ◌⊎◌, true, false, suc, ◌*◌, ◌≤◌, ◌<◌};
 ghost use Rattle.run_blocks_answers.specs.Tests.{TestedPromise};
 
+use refusals::Refusal;
 use run_answers::Run;
 use run_validity::valid;
 
-// How many diagrams were written, or a refusal.
-#[derive(Drop)]
-pub enum Listing {
-    Rows(u64),
-    Refused(u16),
-}
-
+// How many diagrams were written, or a refusal. The run is not inside the Result, because ListPromise and ListMarkedPromise fix it in a refusal too: the
+// run that was lent.
 #[derive(Drop)]
 pub struct Listed {
-    pub answer: Listing,
+    pub answer: Result<u64, Refusal>,
     pub run: Run,
 }
 
@@ -47,12 +43,11 @@ pub fn short_rows(n: usize, rows: usize, s0: usize, s1: usize, words: usize, len
     lengths < rows
 }
 
-// What the tests before the first row say: rows are to be written, or the run is finished, or a refusal.
-#[derive(Drop)]
+// What the tests before the first row say of a run that they do not refuse: rows are to be written, or the run is finished.
+#[derive(Clone, Copy)]
 pub enum Readiness {
     Ready,
     Finished,
-    Refused(u16),
 }
 
 // Tests a run and the lengths of the output lists: 34, then "finished", then 9.
@@ -63,17 +58,17 @@ pub fn tested(
     s1: usize,
     words: usize,
     lengths: usize,
-) -> Readiness
+) -> Result<Readiness, Refusal>
     ensures { TestedPromise run rows s0 s1 words lengths result }
 {
     if !valid(run) {
-        return Readiness::Refused(34);
+        return Err(Refusal::RunNotValid);
     }
     if run.stage == 2 {
-        return Readiness::Finished;
+        return Ok(Readiness::Finished);
     }
     if short_rows(run.size as usize, rows, s0, s1, words, lengths) {
-        return Readiness::Refused(9);
+        return Err(Refusal::ListShort);
     }
-    Readiness::Ready
+    Ok(Readiness::Ready)
 }

@@ -6,7 +6,7 @@
 ghost use Rattle.run_blocks_answers.specs.Promises.{ListPromise};
 
 use run_answers::Run;
-use run_blocks_answers::{Listed, Listing, Readiness, tested};
+use run_blocks_answers::{Listed, Readiness, tested};
 use run_rows::rows_of;
 
 // The next diagrams of a run, at most as many as the rows asked for: black lists, white lists, words and lengths of words, one after another.
@@ -30,19 +30,16 @@ pub fn list(
         lengths.len(),
     );
     match readiness {
-        Readiness::Refused(number) => Listed {
-            answer: Listing::Refused(number),
+        Err(refusal) => Listed {
+            answer: Err(refusal),
             run,
         },
-        Readiness::Finished => Listed {
-            answer: Listing::Rows(0),
-            run,
-        },
-        Readiness::Ready => {
+        Ok(Readiness::Finished) => Listed { answer: Ok(0), run },
+        Ok(Readiness::Ready) => {
             let reached = rows_of(run, rows as usize, s0, s1, words, lengths);
             let next = reached.run;
             Listed {
-                answer: Listing::Rows(reached.rows as u64),
+                answer: Ok(reached.rows as u64),
                 run: next,
             }
         }

@@ -7,7 +7,7 @@ use Rattle.run_answers.specs.declared.Run.{Run}
 use Rattle.run_validity.proofs.Standing.{stands-size}
 use Rattle.run_marks.specs.Marks.{MarksWritten}
 use Rattle.run_blocks_answers.specs.Promises.{RowsGiven, RefusedList, MarkedRowsGiven, ListPromise, ListMarkedPromise}
-use Rattle.run_blocks_answers.specs.declared.Listing.TheVariants.{Rows}
+use Rattle.std.specs.Prelude.{Ok}
 
 module _ {run : Run} {rows k : ℕ} {next : Run} {a0 a1 aw al b0 b1 bw bl : List ℕ} (G : RowsGiven run rows k next a0 a1 aw al b0 b1 bw bl) where
   pub gave-marked : (am bm : List ℕ) → rows ≤ length am → MarksWritten run.size G.place k am bm → MarkedRowsGiven run rows k next a0 a1 aw al am b0 b1 bw bl bm
@@ -15,7 +15,7 @@ module _ {run : Run} {rows k : ℕ} {next : Run} {a0 a1 aw al b0 b1 bw bl : List
 
 -- a marked listing is a listing
 pub marked-lists : (run : Run) (rows k : ℕ) (next : Run) (a0 a1 aw al am b0 b1 bw bl bm : List ℕ)
-    → ListMarkedPromise run rows a0 a1 aw al am next b0 b1 bw bl bm (Rows k) → ListPromise run rows a0 a1 aw al next b0 b1 bw bl (Rows k)
+    → ListMarkedPromise run rows a0 a1 aw al am next b0 b1 bw bl bm (Ok k) → ListPromise run rows a0 a1 aw al next b0 b1 bw bl (Ok k)
 marked-lists run rows k next a0 a1 aw al am b0 b1 bw bl bm (inl x) = inl x.0
 marked-lists run rows k next a0 a1 aw al am b0 b1 bw bl bm (inr x) = inr x.gave
 

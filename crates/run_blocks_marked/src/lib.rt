@@ -5,8 +5,9 @@
 
 ghost use Rattle.run_blocks_answers.specs.Promises.{ListMarkedPromise};
 
+use refusals::Refusal;
 use run_answers::Run;
-use run_blocks_answers::{Listed, Listing, Readiness, tested};
+use run_blocks_answers::{Listed, Readiness, tested};
 use run_marks::mark_rows;
 use run_rows::rows_of;
 
@@ -27,18 +28,15 @@ pub fn list_marked(
     let n = run.size as usize;
     let readiness = tested(run, count, s0.len(), s1.len(), words.len(), lengths.len());
     match readiness {
-        Readiness::Refused(number) => Listed {
-            answer: Listing::Refused(number),
+        Err(refusal) => Listed {
+            answer: Err(refusal),
             run,
         },
-        Readiness::Finished => Listed {
-            answer: Listing::Rows(0),
-            run,
-        },
-        Readiness::Ready => {
+        Ok(Readiness::Finished) => Listed { answer: Ok(0), run },
+        Ok(Readiness::Ready) => {
             if marks.len() < count {
                 return Listed {
-                    answer: Listing::Refused(9),
+                    answer: Err(Refusal::ListShort),
                     run,
                 };
             }
@@ -46,7 +44,7 @@ pub fn list_marked(
             mark_rows(n, reached.rows, s0, s1, words, lengths, marks);
             let next = reached.run;
             Listed {
-                answer: Listing::Rows(reached.rows as u64),
+                answer: Ok(reached.rows as u64),
                 run: next,
             }
         }

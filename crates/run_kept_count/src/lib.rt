@@ -12,7 +12,7 @@ ghost use Rattle.run_kept_count.specs.Promises.{BlockCounted, KeptCountPromise};
 use census_rows::{ROWS, kept_of};
 use diagrams::Diagram;
 use listing_places::count_of;
-use listing_ranking::Total;
+use refusals::Refusal;
 use run_answers::Run;
 use run_beginning::{empty, listed};
 use run_marks::mark_rows;
@@ -24,10 +24,8 @@ fn kept_marks(marks: &[u8; ROWS], rows: usize) -> u64
     ensures { result ≡ kept_among marks.now rows }
 {
     let mut kept: u64 = 0;
-    let mut i: usize = 0;
-    while i < rows {
+    for i in 0..rows {
         kept += kept_of(marks[i]);
-        i += 1;
     }
     kept
 }
@@ -71,6 +69,7 @@ pub fn kept_of_size(size: u64) -> u64
     let mut run = empty(size, 0);
     let mut given: u64 = 0;
     let mut kept: u64 = 0;
+    // No `for`: each block tells how many diagrams it had.
     while given < total {
         let block = count_block(run);
         run = block.run;
@@ -81,11 +80,11 @@ pub fn kept_of_size(size: u64) -> u64
 }
 
 // How many diagrams of a size are kept, or the refusal 31.
-pub fn kept_count(size: u64) -> Total
+pub fn kept_count(size: u64) -> Result<u64, Refusal>
     ensures { KeptCountPromise size result }
 {
     if listed(size) {
-        return Total::Number(kept_of_size(size));
+        return Ok(kept_of_size(size));
     }
-    Total::Refused(31)
+    Err(Refusal::ListedSizeOutOfRange)
 }

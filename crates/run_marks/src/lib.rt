@@ -27,8 +27,7 @@ pub fn mark_rows(
     let mut prev = [0u16; 1025];
     let mut edge: usize = 0;
     let mut place: usize = 0;
-    let mut i: usize = 0;
-    while i < rows {
+    for i in 0..rows {
         let after = edge + n;
         let end = place + to_index(lengths[i]);
         let m = mark(
@@ -42,6 +41,5 @@ pub fn mark_rows(
         marks[i] = m;
         edge = after;
         place = end;
-        i += 1;
     }
 }

@@ -10,7 +10,7 @@ ghost use Rattle.run_next_diagram.specs.Given.{StepGives};
 
 use listing_successor::{Held, successor_word};
 use lists::fill;
-use run_answers::{Run, Stepped, Stepping};
+use run_answers::{Run, Stepped};
 use words_spelling::write_diagram;
 
 // Whether an output list is short for a diagram of n edges and its word.
@@ -46,7 +46,7 @@ pub fn give(size: u64, next: Held, s0: &mut [u16], s1: &mut [u16], word: &mut [u
     fill(word, &items[..length]);
     write_diagram(&items[..length], s0, s1);
     Stepped {
-        answer: Stepping::Length(length as u16),
+        answer: Ok(Some(length as u16)),
         run: Run {
             size,
             stage: 1,

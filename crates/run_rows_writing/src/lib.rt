@@ -70,8 +70,7 @@ pub fn write_rows(
     draw_word(&items[..l], stack, popped, d0, d1);
     let mut edge: usize = 0;
     let mut place: usize = 0;
-    let mut i: usize = 0;
-    while i < rows {
+    for i in 0..rows {
         l = advance(&mut items, l, size, stack, popped, d0, d1);
         if l == 0 {
             return arrived(i, run.size, 2, 0, [0u16; 51]);
@@ -92,7 +91,6 @@ pub fn write_rows(
         stage = 1;
         edge += n;
         place += l;
-        i += 1;
     }
-    arrived(i, run.size, stage, l, padded(&items[..l]))
+    arrived(rows, run.size, stage, l, padded(&items[..l]))
 }

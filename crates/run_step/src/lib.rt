@@ -4,7 +4,8 @@
 
 ghost use Rattle.run_answers.specs.Promises.{StepPromise};
 
-use run_answers::{Run, Stepped, Stepping};
+use refusals::Refusal;
+use run_answers::{Run, Stepped};
 use run_beginning::empty;
 use run_next_diagram::{give, next_word, short};
 use run_validity::valid;
@@ -15,26 +16,26 @@ pub fn step(run: Run, s0: &mut [u16], s1: &mut [u16], word: &mut [u16]) -> Stepp
 {
     if !valid(run) {
         return Stepped {
-            answer: Stepping::Refused(34),
+            answer: Err(Refusal::RunNotValid),
             run,
         };
     }
     if run.stage == 2 {
         return Stepped {
-            answer: Stepping::End,
+            answer: Ok(None),
             run,
         };
     }
     if short(run.size as usize, s0.len(), s1.len(), word.len()) {
         return Stepped {
-            answer: Stepping::Refused(9),
+            answer: Err(Refusal::ListShort),
             run,
         };
     }
     let next = next_word(run);
     if next.length == 0 {
         return Stepped {
-            answer: Stepping::End,
+            answer: Ok(None),
             run: empty(run.size, 2),
         };
     }

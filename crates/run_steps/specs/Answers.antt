@@ -1,2 +1,2 @@
--- The answers' numbers and values (crate run_answers).
-pub use Rattle.run_answers.specs.Answers.{begin_number, step_number, step_length}
+-- The value of a step's answer (crate run_answers).
+pub use Rattle.run_answers.specs.Answers.{step_length}

@@ -3,7 +3,7 @@
 // output list that is short.
 #![tactic(auto)]
 
-pub use run_answers::{Beginning, Begun, Run, Stepped, Stepping};
+pub use run_answers::{Begun, Run, Stepped};
 pub use run_beginning::begin;
 pub use run_beginning_at::begin_at;
 pub use run_step::step;

@@ -3,7 +3,7 @@
 // fewer bytes than the rows asked for can need.
 #![tactic(auto)]
 
-ghost use Rattle.std.specs.Prelude.{◌≡◌, ◌≢◌, ◌+◌, ◌-◌, ◌*◌, ◌≤◌, min, length};
+ghost use Rattle.std.specs.Prelude.{◌≡◌, ◌≢◌, ◌+◌, ◌-◌, ◌*◌, ◌≤◌, length};
 ghost use Rattle.lists.specs.Ranges.{OneTo};
 ghost use Rattle.listing.specs.Listing.{count};
 ghost use Rattle.run_answers.specs.Promises.{RunAt};
@@ -16,20 +16,23 @@ use census_blocks::{Block, put_block};
 use census_rows::ROWS;
 use listing_places::count_of;
 use listing_places::ranking::position_of;
+use refusals::Refusal;
 use run_answers::Run;
 use run_blocks_answers::short;
 use run_validity::valid;
 
-// How many rows were written, how many bytes they have and how many of their diagrams are kept; or a refusal.
-#[derive(Drop)]
-pub enum RowsAnswer {
-    Rows { rows: u64, bytes: u64, kept: u64 },
-    Refused(u16),
+// How many rows were written, how many bytes they have and how many of their diagrams are kept.
+#[derive(Clone, Copy)]
+pub struct TextRows {
+    pub rows: u64,
+    pub bytes: u64,
+    pub kept: u64,
 }
 
+// What `rows` answers. The run is not inside the Result, because RowsPromise fixes it in a refusal too: the run that was lent.
 #[derive(Drop)]
 pub struct RowsDone {
-    pub answer: RowsAnswer,
+    pub answer: Result<TextRows, Refusal>,
     pub run: Run,
 }
 
@@ -54,16 +57,6 @@ fn given(run: Run) -> u64
     position_of(run.size as usize, &items[..length])
 }
 
-// The smaller of two numbers.
-fn least(a: u64, b: u64) -> u64
-    ensures { result ≡ min a b }
-{
-    if a < b {
-        return a;
-    }
-    b
-}
-
 // Writes the next rows of a run that has given p diagrams, a block at a time; there are so many, and out has room for them.
 fn put_blocks(run: Run, p: u64, rows: u64, out: &mut [u8]) -> Block
     requires { RunAt run.size p run × (p + rows ≤ count run.size) × (rows * row_bytes run.size ≤ length out.old) }
@@ -73,8 +66,9 @@ fn put_blocks(run: Run, p: u64, rows: u64, out: &mut [u8]) -> Block
     let mut bytes: usize = 0;
     let mut kept: u64 = 0;
     let mut done: u64 = 0;
+    // No `for`: the last block may be shorter than the others, so that each block tells the step.
     while done < rows {
-        let count = least(rows - done, ROWS as u64);
+        let count = (rows - done).min(ROWS as u64);
         let block = put_block(run, p + done, count as usize, &mut out[bytes..]);
         run = block.run;
         bytes += block.bytes;
@@ -90,36 +84,36 @@ pub fn rows(run: Run, asked: u64, out: &mut [u8]) -> RowsDone
 {
     if !valid(run) {
         return RowsDone {
-            answer: RowsAnswer::Refused(34),
+            answer: Err(Refusal::RunNotValid),
             run,
         };
     }
     if run.stage == 2 {
         return RowsDone {
-            answer: RowsAnswer::Rows {
+            answer: Ok(TextRows {
                 rows: 0,
                 bytes: 0,
                 kept: 0,
-            },
+            }),
             run,
         };
     }
     if short(out.len(), asked as usize, row_bytes(run.size)) {
         return RowsDone {
-            answer: RowsAnswer::Refused(9),
+            answer: Err(Refusal::ListShort),
             run,
         };
     }
     let p = given(run);
-    let rows = least(asked, count_of(run.size) - p);
+    let rows = asked.min(count_of(run.size) - p);
     let block = put_blocks(run, p, rows, out);
     let next = block.run;
     RowsDone {
-        answer: RowsAnswer::Rows {
+        answer: Ok(TextRows {
             rows,
             bytes: block.bytes as u64,
             kept: block.kept,
-        },
+        }),
         run: next,
     }
 }

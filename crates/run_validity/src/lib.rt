@@ -13,12 +13,10 @@ use run_beginning::listed;
 pub fn zeros(items: &[u16]) -> bool
     ensures { (result ≡ true → items.now ≡ replicate (length items.now) 0) × (result ≡ false → ¬ (items.now ≡ replicate (length items.now) 0)) }
 {
-    let mut i: usize = 0;
-    while i < items.len() {
-        if items[i] != 0 {
+    for &x in items {
+        if x != 0 {
             return false;
         }
-        i += 1;
     }
     true
 }

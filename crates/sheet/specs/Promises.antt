@@ -1,4 +1,4 @@
--- What the operation on a sheet promises (request U2), by the cases of its answer.
+-- What the operation on a sheet promises, by the cases of its answer.
 -- The lists for refusals and positions are named a and b as they were lent, c and d as they are handed back.
 --
 --   Divided s                    the length of s is a multiple of 52
@@ -6,11 +6,10 @@
 --   RefusedSheet s a b number    what is refused: 61, then 9
 --   SheetPromise s a b c d answer    the promise: answered, the two lists of the cells' answers stand in the first places of the lists, and the
 --                                rest is untouched; refused, both lists are as they were
-use Rattle.std.specs.Prelude.{◌≡◌, ◌⊎◌, List, ℕ, ◌*◌, ◌<◌, length}
+use Rattle.std.specs.Prelude.{◌≡◌, ◌⊎◌, List, ℕ, ◌*◌, ◌<◌, length, Result, Ok, Err}
 use Rattle.lists.specs.Overwriting.{overwrite}
-use Rattle.sheet.specs.declared.SheetAnswer.{SheetAnswer}
-use Rattle.sheet.specs.declared.SheetAnswer.TheVariants as sheet
-use Rattle.sheet.specs.Answers.{sheet_number}
+use Rattle.refusals.specs.declared.Refusal.{Refusal}
+use Rattle.refusals.specs.Numbers.{number}
 use Rattle.sheet.specs.Cells.{cells, refusals, positions}
 
 abbrev pub Divided : List ℕ → Type 0
@@ -23,6 +22,6 @@ ShortForCells s a b = (length a < length (cells s)) ⊎ (length b < length (cell
 abbrev pub RefusedSheet : List ℕ → List ℕ → List ℕ → ℕ → Type 0
 RefusedSheet s a b k = ((k ≡ 61) × (¬ Divided s)) ⊎ ((k ≡ 9) × Divided s × ShortForCells s a b)
 
-abbrev pub SheetPromise : List ℕ → List ℕ → List ℕ → List ℕ → List ℕ → SheetAnswer → Type 0
-SheetPromise s a b c d sheet.Answered = Divided s × (¬ ShortForCells s a b) × (c ≡ overwrite (refusals s) a) × (d ≡ overwrite (positions s) b)
-SheetPromise s a b c d (sheet.Refused k) = RefusedSheet s a b (sheet_number (sheet.Refused k)) × (c ≡ a) × (d ≡ b)
+abbrev pub SheetPromise : List ℕ → List ℕ → List ℕ → List ℕ → List ℕ → Result (Unit {0}) Refusal → Type 0
+SheetPromise s a b c d (Ok u) = Divided s × (¬ ShortForCells s a b) × (c ≡ overwrite (refusals s) a) × (d ≡ overwrite (positions s) b)
+SheetPromise s a b c d (Err e) = RefusedSheet s a b (number e) × (c ≡ a) × (d ≡ b)

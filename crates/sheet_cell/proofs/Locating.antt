@@ -1,18 +1,20 @@
 -- Laws of answering a cell: from what read word answers of its word to its pair, and the form of the cell.
 use mathlib.Core.Path.{◌≡◌, refl, sym, ap, ◌∙◌}
-use mathlib.Core.Bool.{true, false}
-use mathlib.Core.List.{List}
+use mathlib.Core.Bool.{Bool, true, false, cond}
+use mathlib.Core.List.{List, [], ◌∷◌}
 use mathlib.Core.Option.{some}
 use Prim.Native.Nat.{ℕ, ◌+◌, ◌-◌, ◌≤◌, ◌<◌}
-use native.Mathlib.Numerals.{add-one}
 use native.Mathlib.Omega.{arith}
-use lib.ListN.{length, get_or, take, drop, length-drop, drop_of_length-le}
-use lib.Seq.{drop-cons, drop-drop, take_all}
+use lib.Dec.{eqb}
+use lib.ListN.{length, take, drop, length-drop}
+use lib.Seq.{drop-drop, take_all}
+use Rattle.std.specs.Prelude.{◌==◌, ◌&&◌, Result, Ok, Err}
+use Rattle.std.specs.List.{list_all}
 use Rattle.lists.specs.Lists.{at}
-use Rattle.lists.proofs.Tests.{le-true, le-false, eqb-eq, eqb-ne}
+use Rattle.lists.proofs.Tests.{le-true, le-false}
+use Rattle.refusals.specs.declared.Refusal.{Refusal}
+use Rattle.refusals.specs.Numbers.{number}
 use Rattle.words.specs.Word.{Pair, Spells, spell}
-use Rattle.words_reading.specs.declared.Reading.{Reading}
-use Rattle.words_reading.specs.declared.Reading.TheVariants as reading
 use Rattle.words_reading.specs.Read.{Read, refused, built, read}
 use Rattle.words_reading.proofs.Spelling.{read-spell}
 use Rattle.words_reading_size.specs.Counting.{SizePromise}
@@ -23,12 +25,12 @@ use Rattle.sheet.proofs.Cells.{cell-long, cell-marked, cell-read}
 
 -- ---- from the answer of reading to the pair
 
-not-sized : (k n : ℕ) → ¬ (◌≡◌ {A = Reading} (reading.Refused k) (reading.Size n))
-not-sized k n e = let z : ◌≡◌ {A = ℕ} 0 1 = cc in omega arith
+not-sized : (e : Refusal) (n : ℕ) → ¬ (◌≡◌ {A = Result ℕ Refusal} (Err e) (Ok n))
+not-sized e n p = let z : ◌≡◌ {A = ℕ} 0 1 = cc in omega arith
 
-refused-with : (q : Read) (k : ℕ) → SizePromise q (reading.Refused k) → refused_with k ≡ located q
-refused-with (refused j) k e = let z : k ≡ j = cc in ap refused_with z
-refused-with (built D) k e = absurd (not-sized k _ e)
+refused-with : (q : Read) (e : Refusal) → SizePromise q (Err e) → refused_with (number e) ≡ located q
+refused-with (refused j) e p = ap refused_with p
+refused-with (built D) e p = absurd (not-sized e _ p)
 
 -- the diagram that was read
 record Sized (q : Read) (n : ℕ) : Type 0 where
@@ -36,15 +38,15 @@ record Sized (q : Read) (n : ℕ) : Type 0 where
   is_built : q ≡ built diagram
   size : n ≡ length diagram.black
 
-sized : (q : Read) (n : ℕ) → SizePromise q (reading.Size n) → Sized q n
-sized (refused k) n e = absurd (not-sized k n (sym e))
+sized : (q : Read) (n : ℕ) → SizePromise q (Ok n) → Sized q n
+sized (refused k) n e = absurd e
 sized (built D) n e = let z : n ≡ length D.black = cc in record { diagram = D; is_built = refl; size = z }
 
 module _ (w : List ℕ) where
-  pub located-refused : (k : ℕ) → SizePromise (read w) (reading.Refused k) → refused_with k ≡ located (read w)
+  pub located-refused : (e : Refusal) → SizePromise (read w) (Err e) → refused_with (number e) ≡ located (read w)
   located-refused = refused-with (read w)
 
-  module _ (n : ℕ) (e : SizePromise (read w) (reading.Size n)) where
+  module _ (n : ℕ) (e : SizePromise (read w) (Ok n)) where
     abbrev S : Sized (read w) n
     S = sized (read w) n e
 
@@ -66,14 +68,13 @@ module _ (w : List ℕ) where
 
 -- ---- nothing but zeros
 
-pub blank-not : (l : List ℕ) (i : ℕ) → i < length l → blank l ≡ blank (drop i l) → ¬ (get_or l i 0 ≡ 0) → false ≡ blank l
-blank-not l i h e n = sym (e ∙ ap blank (drop-cons l i 0 h) ∙ rw (eqb-ne (get_or l i 0) 0 n) refl)
+and-cond : (a b : Bool) → (a && b) ≡ cond a b false
+and-cond true b = refl
+and-cond false b = refl
 
-pub blank-next : (l : List ℕ) (i : ℕ) → i < length l → blank l ≡ blank (drop i l) → get_or l i 0 ≡ 0 → blank l ≡ blank (drop (i + 1) l)
-blank-next l i h e z = rw add-one (e ∙ ap blank (drop-cons l i 0 h) ∙ rw (eqb-eq (get_or l i 0) 0 z) refl)
-
-pub blank-all : (l : List ℕ) (i : ℕ) → blank l ≡ blank (drop i l) → length l ≤ i → true ≡ blank l
-blank-all l i e h = sym (e ∙ ap blank (drop_of_length-le l h))
+zeros-blank : (l : List ℕ) → list_all (λ x. x == 0) l ≡ blank l
+zeros-blank [] = refl
+zeros-blank (x ∷ l) = rw (zeros-blank l) (and-cond (eqb x 0) (blank l))
 
 -- ---- the form of a cell, as the code cuts it
 
@@ -91,10 +92,13 @@ module _ (c : List ℕ) (m : ℕ) (e : m ≡ at c 1) where
         up : 1 + m ≡ m + 1
         up = omega arith
 
-    pub answered-marked : false ≡ blank (take (length c - (m + 1)) (drop (m + 1) c)) → refused_with 61 ≡ cell c
-    answered-marked b = sym (cell-marked c (sym (b ∙ ap blank tail-is)))
+    cut-blank : list_all (λ x. x == 0) (take (length c - (m + 1)) (drop (m + 1) c)) ≡ blank (tail_of c)
+    cut-blank = zeros-blank (take (length c - (m + 1)) (drop (m + 1) c)) ∙ ap blank tail-is
 
-    pub answered-read : true ≡ blank (take (length c - (m + 1)) (drop (m + 1) c)) → located (read (take (m + 1 - 1) (drop 1 c))) ≡ cell c
+    pub answered-marked : false ≡ list_all (λ x. x == 0) (take (length c - (m + 1)) (drop (m + 1) c)) → refused_with 61 ≡ cell c
+    answered-marked b = sym (cell-marked c (sym (b ∙ cut-blank)))
+
+    pub answered-read : true ≡ list_all (λ x. x == 0) (take (length c - (m + 1)) (drop (m + 1) c)) → located (read (take (m + 1 - 1) (drop 1 c))) ≡ cell c
     answered-read b =
         let z : m + 1 - 1 ≡ at c 1 = omega (arith, e) in
-        rw z (sym (cell-read c (omega (arith, e)) (sym (b ∙ ap blank tail-is))))
+        rw z (sym (cell-read c (omega (arith, e)) (sym (b ∙ cut-blank))))

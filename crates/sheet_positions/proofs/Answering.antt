@@ -1,11 +1,11 @@
 -- Laws of answering a sheet: the cells one after another, and the length of a sheet told by its remainder.
 --
---   Begun s a b start i c d    the first i cells of the sheet s, which end before `start`, are answered: the lists a and b have become c and d
+--   Begun s a b i c d    the first i cells of the sheet s are answered: the lists a and b have become c and d
 use mathlib.Core.Path.{◌≡◌, refl, sym, ap, ◌∙◌}
 use mathlib.Core.Logic.{◌≢◌, inl, inr}
 use mathlib.Core.List.{List, [], ◌∷◌, ◌++◌, map, map-append}
 use Prim.Native.Nat.{ℕ, suc, ◌+◌, ◌-◌, ◌*◌, ◌/◌, ◌%◌, ◌≤◌, ◌<◌}
-use native.Mathlib.Nat.{div-add-mod', mul-mod_left}
+use native.Mathlib.Nat.{div-add-mod', mul-div_left, mul-mod_left}
 use native.Mathlib.Omega.{arith}
 use lib.ListN.{length, take, drop, set, length-map, length-set}
 use Rattle.lists.specs.Overwriting.{overwrite}
@@ -34,51 +34,44 @@ refusal_of a = a.refusal
 abbrev position_of : CellAnswer → ℕ
 position_of a = a.position
 
-pub record Begun (s a b : List ℕ) (start i : ℕ) (c d : List ℕ) : Type 0 where
-  pub place : start ≡ i * 52
-  pub within : start ≤ length s
+pub record Begun (s a b : List ℕ) (i : ℕ) (c d : List ℕ) : Type 0 where
   pub first : c ≡ overwrite (told refusal_of i s) a
   pub second : d ≡ overwrite (told position_of i s) b
   pub first_long : length c ≡ length a
   pub second_long : length d ≡ length b
 
 module _ (s a b : List ℕ) where
-  pub begun-none : Begun s a b 0 0 a b
-  begun-none = record { place = refl; within = omega arith; first = refl; second = refl; first_long = refl; second_long = refl }
+  pub begun-none : Begun s a b 0 a b
+  begun-none = record { first = refl; second = refl; first_long = refl; second_long = refl }
 
   module _ (D : Divided s) (n : ¬ ShortForCells s a b) where
-    long : (D.0 ≤ length a) × (D.0 ≤ length b)
-    long = (enough (length a) (λ h. n (inl h)), enough (length b) (λ h. n (inr h)))
-      where
-        enough : (m : ℕ) → ¬ (m < length (cells s)) → D.0 ≤ m
-        enough m k = let e = cells_count s D.0 D.1 in omega arith
+    quotient : length s / 52 ≡ D.0
+    quotient = ap (λ (m : ℕ). m / 52) D.1 ∙ mul-div_left D.0 {n = 52} (omega arith)
 
-    -- a cell begins before the end, so the whole of it is there, and a place of both lists
-    pub cell-within : (start i : ℕ) (c d : List ℕ) → Begun s a b start i c d → start < length s → (start + 52 ≤ length s) × (i < length a) × (i < length b)
-    cell-within start i c d B h =
-        let p = B.place in
+    -- a cell that is one of them is there as a whole, and so is its place of both lists
+    pub cell-within : (i : ℕ) → i < length s / 52 → (i * 52 + 52 ≤ length s) × (i < length a) × (i < length b)
+    cell-within i h =
         let e = D.1 in
-        let l = long.0 in
-        let m = long.1 in
-        (omega arith, omega arith, omega arith)
+        let m = quotient in
+        (omega arith, place (length a) (λ k. n (inl k)), place (length b) (λ k. n (inr k)))
+      where
+        place : (m : ℕ) → ¬ (m < length (cells s)) → i < m
+        place m k = let e = cells_count s D.0 D.1 in let z = quotient in omega arith
 
-    pub begun_more : (start i : ℕ) (c d : List ℕ) → Begun s a b start i c d → start < length s → (x : CellAnswer) → x ≡ cell (take (start + 52 - start) (drop start s))
-        → Begun s a b (start + 52) (i + 1) (set c i x.refusal) (set d i x.position)
-    begun_more start i c d B h x e =
-        let p = B.place in
-        let w = cell-within start i c d B h in
-        let z : x ≡ cell (take 52 (drop (i * 52) s)) = e ∙ ap cell (part p) in
+    pub begun_more : (i : ℕ) (c d : List ℕ) → Begun s a b i c d → i < length s / 52 → (x : CellAnswer) → x ≡ cell (take (i * 52 + 52 - i * 52) (drop (i * 52) s))
+        → Begun s a b (i + 1) (set c i x.refusal) (set d i x.position)
+    begun_more i c d B h x e =
+        let w = cell-within i h in
+        let z : x ≡ cell (take 52 (drop (i * 52) s)) = e ∙ ap cell part in
         record {
-          place = omega arith;
-          within = w.0;
           first = stored refusal_of a c B.first w.1 z;
           second = stored position_of b d B.second w.2 z;
           first_long = length-set c i x.refusal ∙ B.first_long;
           second_long = length-set d i x.position ∙ B.second_long;
         }
       where
-        part : start ≡ i * 52 → take (start + 52 - start) (drop start s) ≡ take 52 (drop (i * 52) s)
-        part p = let q : start + 52 - start ≡ 52 = omega arith in rw (q, p) refl
+        part : take (i * 52 + 52 - i * 52) (drop (i * 52) s) ≡ take 52 (drop (i * 52) s)
+        part = let q : i * 52 + 52 - i * 52 ≡ 52 = omega arith in rw q refl
 
         stored : (f : CellAnswer → ℕ) (a c : List ℕ) → c ≡ overwrite (told f i s) a → i < length a → x ≡ cell (take 52 (drop (i * 52) s)) → set c i (f x) ≡ overwrite (told f (i + 1) s) a
         stored f a c q l z =
@@ -87,12 +80,9 @@ module _ (s a b : List ℕ) where
             up : suc i ≡ i + 1
             up = omega arith
 
-    pub begun_all : (start i : ℕ) (c d : List ℕ) → Begun s a b start i c d → length s ≤ start → (c ≡ overwrite (refusals s) a) × (d ≡ overwrite (positions s) b)
-    begun_all start i c d B h =
-        let p = B.place in
-        let l = B.within in
-        let e : length s ≡ i * 52 = omega arith in
-        let q = sym (cells_are s i e) in
+    pub begun_all : (i : ℕ) (c d : List ℕ) → Begun s a b i c d → i ≡ length s / 52 → (c ≡ overwrite (refusals s) a) × (d ≡ overwrite (positions s) b)
+    begun_all i c d B h =
+        let q = sym (cells_are s i (let e = D.1 in let m = quotient in omega arith)) in
         (B.first ∙ ap (λ (cs : List (List ℕ)). overwrite (map refusal_of (map cell cs)) a) q, B.second ∙ ap (λ (cs : List (List ℕ)). overwrite (map position_of (map cell cs)) b) q)
 
 -- ---- the length of a sheet

@@ -1,9 +1,8 @@
 // Kept totals: a line a size with the size, how many diagrams a run gives before it answers "end", and how many of these are kept.
-// The expected lines are the published counts of rooted diagrams and of classes without a root (document 000, Tables 6 and 7).
+// The expected lines are the published counts of rooted diagrams and of classes without a root.
 ghost use Rattle.std.specs.Prelude.{◌≤◌};
 
-use labelling_operations::KeepMark;
-use run_steps::{Run, Stepping};
+use run_steps::Run;
 use std::io;
 use std::io::Write;
 
@@ -17,11 +16,7 @@ const MANY: u64 = 1000000;
 fn kept_of(s0: &[u16], s1: &[u16]) -> u64
     ensures { result ≤ 1 }
 {
-    let mark = labelling_operations::kept(s0, s1, 1);
-    match mark {
-        KeepMark::Yes => 1,
-        _ => 0,
-    }
+    u64::from(labelling_operations::kept(s0, s1, 1).unwrap_or(false))
 }
 
 // How many diagrams a run has given, and how many of them are kept.
@@ -34,19 +29,16 @@ struct Counts {
 // The numbers at the end of a run. The lists have as many places as a diagram of the run's size has edges.
 fn counted(run: Run, s0: &mut [u16], s1: &mut [u16], word: &mut [u16]) -> Counts {
     let mut now = run;
-    let mut rooted: u64 = 0;
     let mut kept: u64 = 0;
-    while rooted < MANY {
+    for rooted in 0..MANY {
         let step = run_steps::step(now, s0, s1, word);
-        let answer = step.answer;
-        let Stepping::Length(_) = answer else {
+        let Ok(Some(_)) = step.answer else {
             return Counts { rooted, kept };
         };
         now = step.run;
-        rooted += 1;
         kept += kept_of(s0, s1);
     }
-    Counts { rooted, kept }
+    Counts { rooted: MANY, kept }
 }
 
 fn print_line<W: Write>(stdout: &mut W, size: u64, counts: Counts) -> io::Result<()> {
@@ -70,10 +62,8 @@ fn print_size<W: Write>(stdout: &mut W, size: u64) -> io::Result<()>
 
 // All sizes up to LAST.
 pub fn print_counts<W: Write>(stdout: &mut W) -> io::Result<()> {
-    let mut size: u64 = 1;
-    while size <= LAST {
+    for size in 1..=LAST {
         print_size(stdout, size)?;
-        size += 1;
     }
     Ok(())
 }

@@ -1,6 +1,7 @@
 // The share book in its lent form (crate book_by_value lends it to crate book_lent): a session that sleeps too long, and the one after it. A line
 // for each call, with its arguments; size 4 in 3 shares, of which share 1 holds positions 1 and 2 (document 01, table (k)).
-use book::{Book, Claiming, Committing, Opening, Releasing, Reporting, Taking};
+use book::Book;
+use refusals::Refusal;
 use std::io;
 use std::io::Write;
 
@@ -12,14 +13,16 @@ fn write_number<W: Write>(stdout: &mut W, x: u64) -> io::Result<()> {
     write!(stdout, " {x}")
 }
 
-// The end of a call's line: `ok`, or the refusal where it is not 0.
-fn write_done<W: Write>(stdout: &mut W, refusal: u16) -> io::Result<()> {
-    if refusal == 0 {
-        return write(stdout, b": ok\n");
+fn write_refusal<W: Write>(stdout: &mut W, refusal: Refusal) -> io::Result<()> {
+    writeln!(stdout, ": refused {}", refusal.number())
+}
+
+// The end of a call's line.
+fn write_done<W: Write>(stdout: &mut W, answer: Result<(), Refusal>) -> io::Result<()> {
+    match answer {
+        Ok(()) => write(stdout, b": ok\n"),
+        Err(refusal) => write_refusal(stdout, refusal),
     }
-    write(stdout, b": refused")?;
-    write_number(stdout, refusal as u64)?;
-    write(stdout, b"\n")
 }
 
 // A call's name and its first two arguments.
@@ -27,11 +30,6 @@ fn write_call<W: Write>(stdout: &mut W, name: &[u8], a: u64, b: u64) -> io::Resu
     write(stdout, name)?;
     write_number(stdout, a)?;
     write_number(stdout, b)
-}
-
-// A 16-bit number as a 64-bit one.
-fn long(x: u16) -> u64 {
-    x as u64
 }
 
 // A book of zeros, which open replaces.
@@ -51,11 +49,7 @@ fn blank() -> Book {
 fn open<W: Write>(stdout: &mut W, b: Book, size: u64, k: u64) -> io::Result<Book> {
     write_call(stdout, b"open", size, k)?;
     let done = book_by_value::open(b, size, k);
-    let answer = done.answer;
-    match answer {
-        Opening::Opened => write_done(stdout, 0)?,
-        Opening::Refused(k) => write_done(stdout, k)?,
-    }
+    write_done(stdout, done.answer)?;
     Ok(done.book)
 }
 
@@ -69,14 +63,13 @@ fn claim<W: Write>(
     write_call(stdout, b"claim", tick, share)?;
     write_number(stdout, length)?;
     let done = book_by_value::claim(b, tick, share, length);
-    let answer = done.answer;
-    match answer {
-        Claiming::Ticket(t) => {
+    match done.answer {
+        Ok(t) => {
             write(stdout, b": ticket")?;
             write_number(stdout, t)?;
             write(stdout, b"\n")?;
         }
-        Claiming::Refused(k) => write_done(stdout, k)?,
+        Err(refusal) => write_refusal(stdout, refusal)?,
     }
     Ok(done.book)
 }
@@ -87,18 +80,18 @@ fn take<W: Write>(stdout: &mut W, b: Book, tick: u64, ticket: u64) -> io::Result
     let mut word = [0u16; 5];
     write_call(stdout, b"take", tick, ticket)?;
     let done = book_by_value::take(b, tick, ticket, &mut s0, &mut s1, &mut word);
-    let answer = done.answer;
-    match answer {
-        Taking::Given {
-            share,
-            position,
-            length,
-        } => {
-            write_call(stdout, b": share and position", share, position)?;
-            write_call(stdout, b", items and the third", length, long(word[2]))?;
+    match done.answer {
+        Ok(taken) => {
+            write_call(stdout, b": share and position", taken.share, taken.position)?;
+            write_call(
+                stdout,
+                b", items and the third",
+                taken.length,
+                u64::from(word[2]),
+            )?;
             write(stdout, b"\n")?;
         }
-        Taking::Refused(k) => write_done(stdout, k)?,
+        Err(refusal) => write_refusal(stdout, refusal)?,
     }
     Ok(done.book)
 }
@@ -113,41 +106,29 @@ fn commit<W: Write>(
     write_call(stdout, b"commit", tick, ticket)?;
     write_number(stdout, position)?;
     let done = book_by_value::commit(b, tick, ticket, position);
-    let answer = done.answer;
-    match answer {
-        Committing::Committed => write_done(stdout, 0)?,
-        Committing::Refused(k) => write_done(stdout, k)?,
-    }
+    write_done(stdout, done.answer)?;
     Ok(done.book)
 }
 
 fn release<W: Write>(stdout: &mut W, b: Book, tick: u64, ticket: u64) -> io::Result<Book> {
     write_call(stdout, b"release", tick, ticket)?;
     let done = book_by_value::release(b, tick, ticket);
-    let answer = done.answer;
-    match answer {
-        Releasing::Released => write_done(stdout, 0)?,
-        Releasing::Refused(k) => write_done(stdout, k)?,
-    }
+    write_done(stdout, done.answer)?;
     Ok(done.book)
 }
 
 fn report<W: Write>(stdout: &mut W, b: Book) -> io::Result<()> {
     write(stdout, b"report")?;
-    let answer = book_by_value::report(b);
-    match answer {
-        Reporting::Progress {
-            committed,
-            complete,
-        } => {
-            write_number(stdout, committed)?;
-            if complete {
+    match book_by_value::report(b) {
+        Ok(progress) => {
+            write_number(stdout, progress.committed)?;
+            if progress.complete {
                 write(stdout, b" complete\n")
             } else {
                 write(stdout, b" open\n")
             }
         }
-        Reporting::Refused(k) => write_done(stdout, k),
+        Err(refusal) => write_refusal(stdout, refusal),
     }
 }
 

@@ -9,7 +9,6 @@ mod lent_book;
 
 use std::io;
 use std::io::Write;
-use text_parsing::find;
 
 fn case<W: Write>(stdout: &mut W, input: &[u8]) -> io::Result<()> {
     stdout.write_all(input)?;
@@ -18,14 +17,8 @@ fn case<W: Write>(stdout: &mut W, input: &[u8]) -> io::Result<()> {
 }
 
 fn run<W: Write>(stdout: &mut W, inputs: &[u8]) -> io::Result<()> {
-    let mut start: usize = 0;
-    while start < inputs.len() {
-        let end = find(inputs, start, inputs.len(), b';');
-        case(stdout, &inputs[start..end])?;
-        if end == inputs.len() {
-            return Ok(());
-        }
-        start = end + 1;
+    for input in inputs.split_inclusive(|byte| *byte == b';') {
+        case(stdout, input.strip_suffix(b";").unwrap_or(input))?;
     }
     Ok(())
 }

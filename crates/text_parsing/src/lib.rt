@@ -1,22 +1,10 @@
 // Numbers and lists, read from the bytes of a word.
 //
 // A number is decimal digits, at least one, and fits 64 bits. A list is numbers up to 65,535 parted by commas; `-` is the empty list.
-// Whatever else is read is no number and no list, and is said to be bad.
+// Whatever else is read is no number and no list.
 #![tactic(auto)]
 
-ghost use Rattle.std.specs.Prelude.{◌≡◌, ◌≢◌, ℕ, ◌<◌, ◌≤◌, length, slice_index};
-
-#[derive(Drop)]
-pub struct Parsed {
-    pub good: bool,
-    pub value: u64,
-}
-
-#[derive(Drop)]
-pub struct Listed {
-    pub good: bool,
-    pub length: usize,
-}
+ghost use Rattle.std.specs.Prelude.{◌≡◌, ◌≢◌, ℕ, ◌<◌, ◌≤◌, length, slice_index, Some};
 
 // The place of the first such byte from start on and before end, or end where there is none.
 pub fn find(text: &[u8], start: usize, end: usize, byte: u8) -> usize
@@ -39,81 +27,39 @@ pub fn is(word: &[u8], name: &[u8]) -> bool {
 }
 
 // A number with one digit more.
-fn with_digit(value: u64, byte: u8) -> Parsed {
-    let bad = Parsed {
-        good: false,
-        value: 0,
-    };
-    if byte < b'0' {
-        return bad;
+fn with_digit(value: u64, byte: u8) -> Option<u64> {
+    if !byte.is_ascii_digit() {
+        return None;
     }
-    if b'9' < byte {
-        return bad;
-    }
-    let digit = (byte - b'0') as u64;
-    if u64::MAX / 10 < value {
-        return bad;
-    }
-    let tens = value * 10;
-    if u64::MAX - digit < tens {
-        return bad;
-    }
-    Parsed {
-        good: true,
-        value: tens + digit,
-    }
+    value.checked_mul(10)?.checked_add((byte - b'0') as u64)
 }
 
 // The number that a word is.
-pub fn number(word: &[u8]) -> Parsed {
-    let mut parsed = Parsed {
-        good: 0 < word.len(),
-        value: 0,
-    };
-    let mut i: usize = 0;
-    while i < word.len() {
-        parsed = with_digit(parsed.value, word[i]);
-        if !parsed.good {
-            return parsed;
-        }
-        i += 1;
+pub fn number(word: &[u8]) -> Option<u64> {
+    if word.len() == 0 {
+        return None;
     }
-    parsed
+    let mut value: u64 = 0;
+    for &byte in word {
+        value = with_digit(value, byte)?;
+    }
+    Some(value)
 }
 
-// The list that a word is, written at the beginning of out. One that is longer than out is bad.
-pub fn list(word: &[u8], out: &mut [u16]) -> Listed
-    ensures { result.length ≤ length out.new }
+// The list that a word is, written at the beginning of out; its length. One that is longer than out is none.
+pub fn list(word: &[u8], out: &mut [u16]) -> Option<usize>
+    ensures { (n : ℕ) → result ≡ Some n → n ≤ length out.new }
 {
-    let bad = Listed {
-        good: false,
-        length: 0,
-    };
     if is(word, b"-") {
-        return Listed {
-            good: true,
-            length: 0,
-        };
+        return Some(0);
     }
     let mut length: usize = 0;
-    let mut start: usize = 0;
-    loop {
-        let end = find(word, start, word.len(), b',');
-        let entry = number(&word[start..end]);
-        if !entry.good {
-            return bad;
-        }
-        if 65535 < entry.value {
-            return bad;
-        }
+    for part in word.split(|byte| *byte == b',') {
         if out.len() <= length {
-            return bad;
+            return None;
         }
-        out[length] = entry.value as u16;
+        out[length] = u16::try_from(number(part)?).ok()?;
         length += 1;
-        if end == word.len() {
-            return Listed { good: true, length };
-        }
-        start = end + 1;
     }
+    Some(length)
 }

@@ -11,17 +11,17 @@ use lib.ListN.{length, drop, length-drop}
 use lib.Seq.{take_all}
 use Rattle.lists.proofs.Tests.{leb-true, lt?, le-true}
 use Rattle.words.specs.Letters.{letters, starts_with_root, LettersAfter, LettersPromise}
-use Rattle.words.specs.Outputs.{overwrite_from}
-use Rattle.words.specs.declared.Lettered.{Lettered}
-use Rattle.words.specs.declared.Lettered.TheVariants.{Length, Refused}
+use Rattle.std.specs.Prelude.{Result, Ok, Err}
+use Rattle.refusals.specs.declared.Refusal.{Refusal}
+use Rattle.refusals.specs.declared.Refusal.TheVariants.{ListShort, FirstItem}
 use Rattle.words.proofs.Outputs.{from-none, from-part}
-use Rattle.text_printing.specs.Printing.{Output, output, put, put_all, word_pieces}
+use Rattle.text_printing.specs.Printing.{output, put, put_all, word_pieces}
 use Rattle.text_printing.proofs.Printing.{put-fits, put-short}
 
 -- the place after the answer
-abbrev pub place_after : ℕ → Lettered → ℕ
-place_after i (Length n) = i + n
-place_after i (Refused k) = i
+abbrev pub place_after : ℕ → Result ℕ Refusal → ℕ
+place_after i (Ok n) = i + n
+place_after i (Err k) = i
 
 leb-false : (a b : ℕ) → leb a b ≡ false → b < a
 leb-false a b e = go (lt? b a)
@@ -42,40 +42,29 @@ module _ (d : List ℕ) (i : ℕ) (within : i ≤ length d) where
   mid_back b e = from-part i [] d b (omega arith) e ∙ from-none i d
 
   module _ (w b : List ℕ) where
-    refused : (k : ℕ) (r : Lettered) → r ≡ Refused k → LettersAfter r w mid b → output (put_mid i (length d - i) d b) (place_after i r) ≡ output d i
+    refused : (k : Refusal) (r : Result ℕ Refusal) → r ≡ Err k → LettersAfter r w mid b → output (put_mid i (length d - i) d b) (place_after i r) ≡ output d i
     refused k r e a = rw e (ap (λ (x : List ℕ). output x i) (mid_back b (rw e at a)))
 
-    written : (r : Lettered) → r ≡ Length (length (letters w)) → i + length (letters w) ≤ length d → LettersAfter r w mid b
+    written : (r : Result ℕ Refusal) → r ≡ Ok (length (letters w)) → i + length (letters w) ≤ length d → LettersAfter r w mid b
         → output (put_mid i (length d - i) d b) (place_after i r) ≡ put (letters w) (output d i)
     written r e h a = rw e (ap (λ (x : List ℕ). output x (i + length (letters w))) (from-part i (letters w) d b h (rw e at a))) ∙ sym (put-fits (letters w) (output d i) h)
 
-    word-put : (r : Lettered) → LettersPromise w mid r b → output (put_mid i (length d - i) d b) (place_after i r) ≡ put_all (word_pieces w) (output d i)
+    word-put : (r : Result ℕ Refusal) → LettersPromise w mid r b → output (put_mid i (length d - i) d b) (place_after i r) ≡ put_all (word_pieces w) (output d i)
     unfolding put_all word_pieces
     word-put r p = go (starts_with_root w) refl (leb (length (letters w)) (length mid)) refl
       where
         go : (s : Bool) → starts_with_root w ≡ s → (f : Bool) → leb (length (letters w)) (length mid) ≡ f
             → output (put_mid i (length d - i) d b) (place_after i r) ≡ put_all (word_pieces w) (output d i)
-        go false e f g = rw e (refused 22 r (p.answer ∙ rw e) p.room)
+        go false e f g = rw e (refused FirstItem r (p.answer ∙ rw e) p.room)
         go true e true g = rw e (written r (p.answer ∙ rw (e, g)) (omega (arith, leb-true (length (letters w)) (length mid) g, mid-length)) p.room)
-        go true e false g = rw e (refused 9 r (p.answer ∙ rw (e, g)) p.room ∙ sym (put-short (letters w) (output d i) (omega (arith, leb-false (length (letters w)) (length mid) g, mid-length))))
-
-    word_end : (r : Lettered) → LettersPromise w mid r b → place_after i r ≤ length d
-    word_end r p = go (starts_with_root w) refl (leb (length (letters w)) (length mid)) refl
-      where
-        go : (s : Bool) → starts_with_root w ≡ s → (f : Bool) → leb (length (letters w)) (length mid) ≡ f → place_after i r ≤ length d
-        go false e f g = let q : r ≡ Refused 22 = p.answer ∙ rw e in rw q within
-        go true e false g = let q : r ≡ Refused 9 = p.answer ∙ rw (e, g) in rw q within
-        go true e true g = let q : r ≡ Length (length (letters w)) = p.answer ∙ rw (e, g) in rw q (omega (arith, leb-true (length (letters w)) (length mid) g, mid-length))
+        go true e false g = rw e (refused ListShort r (p.answer ∙ rw (e, g)) p.room ∙ sym (put-short (letters w) (output d i) (omega (arith, leb-false (length (letters w)) (length mid) g, mid-length))))
 
     -- by the answer
-    pub put-letters : (r : Lettered) (n : ℕ) → r ≡ Length n → LettersPromise w mid r b → output (put_mid i (length d - i) d b) (i + n) ≡ put_all (word_pieces w) (output d i)
+    pub put-letters : (r : Result ℕ Refusal) (n : ℕ) → r ≡ Ok n → LettersPromise w mid r b → output (put_mid i (length d - i) d b) (i + n) ≡ put_all (word_pieces w) (output d i)
     put-letters r n e p = rw e at (word-put r p)
 
-    pub put-none : (r : Lettered) (k : ℕ) → r ≡ Refused k → LettersPromise w mid r b → output (put_mid i (length d - i) d b) i ≡ put_all (word_pieces w) (output d i)
+    pub put-none : (r : Result ℕ Refusal) (k : Refusal) → r ≡ Err k → LettersPromise w mid r b → output (put_mid i (length d - i) d b) i ≡ put_all (word_pieces w) (output d i)
     put-none r k e p = rw e at (word-put r p)
-
-    pub letters-within : (r : Lettered) (n : ℕ) → r ≡ Length n → LettersPromise w mid r b → i + n ≤ length d
-    letters-within r n e p = rw e at (word_end r p)
 
 -- a place beyond the buffer
 pub word-beyond : (d : List ℕ) (i : ℕ) (w : List ℕ) → length d < i → output d i ≡ put_all (word_pieces w) (output d i)

@@ -7,7 +7,6 @@ ghost use Rattle.text_printing.specs.Printing.{output, put_all, signed_pieces, w
 
 pub use text_printing_lists::put_list;
 pub use text_printing_pieces::{put_byte, put_number, put_text};
-use words::Lettered;
 
 // A number without its sign. The least number of the type has no opposite in it, so one is added after the cast.
 fn magnitude(x: i32) -> u64
@@ -38,9 +37,8 @@ pub fn put_word(out: &mut [u8], place: usize, word: &[u16]) -> usize
     if out.len() < place {
         return place;
     }
-    let lettered = words::letters(word, &mut out[place..]);
-    match lettered {
-        Lettered::Length(n) => place + n,
-        Lettered::Refused(_) => place,
+    match words::letters(word, &mut out[place..]) {
+        Ok(n) => place + n,
+        Err(_) => place,
     }
 }

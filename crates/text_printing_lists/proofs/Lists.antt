@@ -1,11 +1,12 @@
 -- Laws of printing a list, entry by entry.
 use mathlib.Core.Path.{◌≡◌, refl}
 use mathlib.Core.List.{List, [], ◌∷◌}
-use Prim.Native.Nat.{ℕ, ◌+◌, ◌≤◌, ◌<◌}
+use Prim.Native.Nat.{ℕ, ◌+◌, ◌-◌, ◌≤◌, ◌<◌}
 use native.Mathlib.Numerals.{add-one}
 use native.Mathlib.Omega.{arith}
-use lib.ListN.{length, get_or, drop, drop_of_length-le}
+use lib.ListN.{length, get_or, take, drop, drop_of_length-le}
 use lib.Seq.{drop-cons}
+use Rattle.lists.proofs.Lists.{rest-is}
 use Rattle.words_decimals.specs.Decimals.{decimal}
 use Rattle.text_printing_pieces.specs.Pieces.{Output, put, put_all}
 use Rattle.text_printing_lists.specs.Lists.{entry_pieces, list_pieces}
@@ -23,10 +24,11 @@ pub entries-past : (l : List ℕ) (k : ℕ) (o : Output) → length l ≤ k → 
 unfolding put_all entry_pieces
 entries-past l k o h = rw (drop_of_length-le l h)
 
-pub list-first : (l : List ℕ) (o : Output) → 1 ≤ length l → put_all (entry_pieces (drop 1 l)) (put (decimal (get_or l 0 0)) o) ≡ put_all (list_pieces l) o
+-- the first, and then the part of the list after it
+pub list-first : (l : List ℕ) (o : Output) → 1 ≤ length l → put_all (entry_pieces (take (length l - 1) (drop 1 l))) (put (decimal (get_or l 0 0)) o) ≡ put_all (list_pieces l) o
 unfolding put_all list_pieces
 list-first [] o h = absurd (omega arith)
-list-first (x ∷ l) o h = refl
+list-first (x ∷ l) o h = rw (rest-is x l)
 
 pub list-none : (l : List ℕ) (o : Output) → length l ≡ 0 → put_all (list_pieces l) o ≡ put (45 ∷ []) o
 unfolding put_all list_pieces

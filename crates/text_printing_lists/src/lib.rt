@@ -22,10 +22,8 @@ pub fn put_list(out: &mut [u8], place: usize, list: &[u16]) -> usize
         return put_byte(out, place, b'-');
     }
     let mut next = put_number(out, place, list[0] as u64);
-    let mut i: usize = 1;
-    while i < list.len() {
-        next = put_entry(out, next, list[i] as u64);
-        i += 1;
+    for &x in &list[1..] {
+        next = put_entry(out, next, x as u64);
     }
     next
 }

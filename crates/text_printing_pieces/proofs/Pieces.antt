@@ -2,13 +2,13 @@
 use mathlib.Core.Path.{◌≡◌, refl, sym, ap, ◌∙◌}
 use mathlib.Core.Bool.{Bool, true, false, cond}
 use mathlib.Core.List.{List, [], ◌∷◌, ◌++◌, flatten, append_assoc}
-use Prim.Native.Nat.{ℕ, ◌+◌, ◌≤◌, ◌<◌}
+use Prim.Native.Nat.{ℕ, ◌+◌, ◌-◌, ◌≤◌, ◌<◌}
 use native.Mathlib.Nat.{add-zero}
-use native.Mathlib.Numerals.{add-one}
 use native.Mathlib.Omega.{arith}
+use borrow.Rule.Slice.PartMut.{put_mid}
 use lib.Dec.{leb}
-use lib.ListN.{length, get_or, set, take, length-append, length-set}
-use lib.Seq.{take-suc, length-take-le, take_all}
+use lib.ListN.{length, set, length-append}
+use lib.Seq.{drop-drop}
 use Rattle.lists.proofs.Tests.{le-true, le-false}
 use Rattle.words_decimals.specs.Decimals.{BytesPut}
 use Rattle.lists.specs.Overwriting.{overwrite_from}
@@ -81,31 +81,10 @@ puts-last s o p e = e
 pub put-all-then : (ss ts : List (List ℕ)) (o p q : Output) → p ≡ put_all ss o → q ≡ put_all ts p → q ≡ put_all (ss ++ ts) o
 put-all-then ss ts o p q e f = f ∙ ap (put_all ts) e ∙ sym (put-all-append ss ts o)
 
--- ---- a text, byte by byte
+-- ---- a text, copied over its place
 
--- s is being written at place i of d: e holds its first k bytes
-pub record Copied (d : List ℕ) (i : ℕ) (s e : List ℕ) (k : ℕ) : Type 0 where
-  pub within : k ≤ length s
-  pub long : length e ≡ length d
-  pub bytes : e ≡ overwrite_from i (take k s) d
-
-pub copied_none : (d : List ℕ) (i : ℕ) (s : List ℕ) → Copied d i s d 0
-copied_none d i s = record { within = omega arith; long = refl; bytes = sym (from-none i d) }
-
-pub copied_more : (d : List ℕ) (i : ℕ) (s e : List ℕ) (k : ℕ) → i + length s ≤ length d → k < length s → Copied d i s e k → Copied d i s (set e (i + k) (get_or s k 0)) (k + 1)
-copied_more d i s e k h l c = record {
-  within = omega arith;
-  long = length-set e (i + k) (get_or s k 0) ∙ c.long;
-  bytes = sym (from_one (i + k) (get_or s k 0) e (omega (arith, c.long)))
-      ∙ rw c.bytes (ap (λ (n : ℕ). overwrite_from (i + n) (get_or s k 0 ∷ []) (overwrite_from i (take k s) d)) (sym taken))
-      ∙ from-from i (take k s) d (omega (arith, taken)) (get_or s k 0 ∷ [])
-      ∙ rw (add-one, take-suc s k 0 l);
-}
-  where
-    taken : length (take k s) ≡ k
-    taken = length-take-le k s (omega arith)
-
-pub copied_all : (d : List ℕ) (i : ℕ) (s e : List ℕ) (k : ℕ) → i + length s ≤ length d → length s ≤ k → Copied d i s e k → output e (i + length s) ≡ put s (output d i)
-copied_all d i s e k h l c =
-    ap (λ (x : List ℕ). output x (i + length s)) (c.bytes ∙ ap (λ (x : List ℕ). overwrite_from i x d) (take_all k s l))
-    ∙ sym (put-fits s (output d i) h)
+pub put-copied : (s d : List ℕ) (i : ℕ) (b : List ℕ) → i + length s ≤ length d → b ≡ s → output (put_mid i (i + length s - i) d b) (i + length s) ≡ put s (output d i)
+unfolding overwrite_from
+put-copied s d i b h e =
+    let n : i + length s - i ≡ length s = omega arith in
+    rw (n, e, drop-drop (length s) i d) (sym (put-fits s (output d i) h))

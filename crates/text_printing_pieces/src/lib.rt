@@ -25,12 +25,9 @@ pub fn put_text(out: &mut [u8], place: usize, text: &[u8]) -> usize
     if out.len() - place < text.len() {
         return place;
     }
-    let mut i: usize = 0;
-    while i < text.len() {
-        out[place + i] = text[i];
-        i += 1;
-    }
-    place + text.len()
+    let end = place + text.len();
+    out[place..end].copy_from_slice(text);
+    end
 }
 
 pub fn put_number(out: &mut [u8], place: usize, x: u64) -> usize

@@ -1,5 +1,5 @@
 // Lists of bytes and of 64-bit numbers, printed as crate text_printing_lists prints a list of 16-bit ones: the entries in decimal, parted by commas, and
-// `-` for the empty list.
+// `-` for the empty list. The three are no single function: `Into` promises a relation, so it would promise some list, and not that one.
 #![tactic(auto)]
 
 ghost use Rattle.std.specs.Prelude.{◌≡◌};
@@ -16,10 +16,8 @@ pub fn put_byte_list(out: &mut [u8], place: usize, list: &[u8]) -> usize
         return put_byte(out, place, b'-');
     }
     let mut next = put_number(out, place, list[0] as u64);
-    let mut i: usize = 1;
-    while i < list.len() {
-        next = put_entry(out, next, list[i] as u64);
-        i += 1;
+    for &byte in &list[1..] {
+        next = put_entry(out, next, byte as u64);
     }
     next
 }
@@ -31,10 +29,8 @@ pub fn put_long_list(out: &mut [u8], place: usize, list: &[u64]) -> usize
         return put_byte(out, place, b'-');
     }
     let mut next = put_number(out, place, list[0]);
-    let mut i: usize = 1;
-    while i < list.len() {
-        next = put_entry(out, next, list[i]);
-        i += 1;
+    for &x in &list[1..] {
+        next = put_entry(out, next, x);
     }
     next
 }

@@ -6,6 +6,7 @@ use Prim.Native.Nat.{ℕ, zero, suc, ◌+◌, ◌≤◌, ◌<◌}
 use native.Mathlib.Omega.{arith}
 use lib.ListN.{length, take, drop, get_or, length-drop}
 use lib.Seq.{take-suc, drop-cons, get_or-drop}
+use Rattle.std.specs.Prelude.{Option, Result, Ok, Err}
 use Rattle.lists.specs.Lists.{at}
 use Rattle.lists.specs.Ranges.{OneTo}
 use Rattle.lists.proofs.Tests.{lt?}
@@ -15,15 +16,14 @@ use Rattle.listing.specs.Position.{word_at}
 use Rattle.listing.specs.Diagrams.{diagram_at}
 use Rattle.listing_plain_walk.specs.Promises.{concatenated}
 use Rattle.run_answers.specs.declared.Run.{Run}
-use Rattle.run_answers.specs.declared.Stepping.{Stepping}
-use Rattle.run_answers.specs.declared.Stepping.TheVariants.{Length, Refused}
+use Rattle.refusals.specs.declared.Refusal.{Refusal}
+use Rattle.refusals.specs.Numbers.{number}
 use Rattle.run_steps.specs.Promises.{run_after, RunAt, RunFinished, RefusedStep}
 use Rattle.run_steps.proofs.Standing.{stands-size}
-use Rattle.run_blocks_answers.specs.declared.Listing.TheVariants as listing
 use Rattle.run_blocks.specs.Rows.{blacks, whites, flat_words, lengths, MarkOf}
 use Rattle.run_blocks.specs.Promises.{RunAfterRows, NoRows, RowsGiven, RefusedList, MarkedRowsGiven}
 use Rattle.theorems.specs.SecondList.{Step, History, written, Row, row_of, rows, row_at}
-use Rattle.theorems.specs.Blocks.{column, lengths_of, BlockAnswers, AsSteps, AsRefused, BlocksAreSteps, MarkedAsSteps, MarkedBlocksAreSteps, WalkAgreesHolds}
+use Rattle.theorems.specs.Blocks.{column, lengths_of, gave_length, BlockAnswers, AsSteps, AsRefused, BlocksAreSteps, MarkedAsSteps, MarkedBlocksAreSteps, WalkAgreesHolds}
 use Rattle.theorems.proofs.Steps.{end_step, steps_from, end-happens, from-happened, from-written}
 use Rattle.theorems.proofs.SecondList.{rows_all, row-at, words-rows, second-list-holds}
 
@@ -57,10 +57,10 @@ module _ (n p : ℕ) (f : Row → List ℕ) (B : ℕ → List ℕ) (none : B zer
 
 -- ---- the answers of the steps
 
-abbrev answers_of : List Step → List Stepping
+abbrev answers_of : List Step → List (Result (Option ℕ) Refusal)
 answers_of steps = map (λ (s : Step). s.answer) steps
 
-from-answers : (n : ℕ) (more : List Step) (k p : ℕ) → p + k ≤ count n → answers_of (steps_from n p k more) ≡ map Length (lengths_of (map row_of (take k (drop p (listing n))))) ++ answers_of more
+from-answers : (n : ℕ) (more : List Step) (k p : ℕ) → p + k ≤ count n → answers_of (steps_from n p k more) ≡ map gave_length (lengths_of (map row_of (take k (drop p (listing n))))) ++ answers_of more
 unfolding word_at count
 from-answers n more zero p l = refl
 from-answers n more (suc k) p l = rw (drop-cons (listing n) p [] (omega arith), from-answers n more k (suc p) (omega arith))
@@ -120,7 +120,7 @@ module _ (run : Run) (asked k : ℕ) (a0 a1 aw al : List ℕ) (next : Run) (b0 b
       R : rows run.size steps ≡ map row_of (take k (drop p (listing n)))
       R = rows_are steps next history gave
 
-      answers : answers_of steps ≡ map Length (lengths_of (rows run.size steps)) ++ answers_of more
+      answers : answers_of steps ≡ map gave_length (lengths_of (rows run.size steps)) ++ answers_of more
       answers = rw R (from-answers n more k p l)
 
       -- a list written over by a column of the rows
@@ -180,27 +180,27 @@ module _ (run : Run) (asked k : ℕ) (a0 a1 aw al : List ℕ) (next : Run) (b0 b
         each zero e = absurd (omega arith)
         each (suc i) e = row-marked M.gave A i _ e.1 (M.marked.are.each i e.1)
 
--- a refused listing: a step that is lent empty lists is refused with the same number
-refused-step : (run : Run) (Few : ℕ → Type 0) (number : ℕ) (next : Run) → RefusedList run Few number → next ≡ run → AsRefused run number next
-refused-step run Few number next r x = record {
-  step = record { s0 = []; s1 = []; word = []; s0_after = []; s1_after = []; word_after = []; answer = Refused number };
+-- a refused listing: a step that is lent empty lists is refused for the same reason
+refused-step : (run : Run) (Few : ℕ → Type 0) (e : Refusal) (next : Run) → RefusedList run Few (number e) → next ≡ run → AsRefused run e next
+refused-step run Few e next r x = record {
+  step = record { s0 = []; s1 = []; word = []; s0_after = []; s1_after = []; word_after = []; answer = Err e };
   happened = (short r, x, record { s0_same = refl; s1_same = refl; word_same = refl });
   refused = refl;
 }
   where
-    short : RefusedList run Few number → RefusedStep run [] [] [] number
+    short : RefusedList run Few (number e) → RefusedStep run [] [] [] (number e)
     short (inl o) = inl o
-    short (inr (e, (n, p, T, f))) = inr (e, (n, p, T, inl (let N = T.sized in omega arith)))
+    short (inr (q, (n, p, T, f))) = inr (q, (n, p, T, inl (let N = T.sized in omega arith)))
 
 pub blocks-are-steps : BlocksAreSteps
-blocks-are-steps run asked a0 a1 aw al next b0 b1 bw bl (listing.Rows k) (inl o) = over-steps run asked k a0 a1 aw al next b0 b1 bw bl o
-blocks-are-steps run asked a0 a1 aw al next b0 b1 bw bl (listing.Rows k) (inr G) = gave-steps run asked k a0 a1 aw al next b0 b1 bw bl G G.leaves
-blocks-are-steps run asked a0 a1 aw al next b0 b1 bw bl (listing.Refused number) (r, x, s) = refused-step run _ number next r x
+blocks-are-steps run asked a0 a1 aw al next b0 b1 bw bl (Ok k) (inl o) = over-steps run asked k a0 a1 aw al next b0 b1 bw bl o
+blocks-are-steps run asked a0 a1 aw al next b0 b1 bw bl (Ok k) (inr G) = gave-steps run asked k a0 a1 aw al next b0 b1 bw bl G G.leaves
+blocks-are-steps run asked a0 a1 aw al next b0 b1 bw bl (Err e) (r, x, s) = refused-step run _ e next r x
 
 pub marked-blocks-are-steps : MarkedBlocksAreSteps
-marked-blocks-are-steps run asked a0 a1 aw al am next b0 b1 bw bl bm (listing.Rows k) (inl o) = over-marked run asked k a0 a1 aw al next b0 b1 bw bl am bm o.0 o.1
-marked-blocks-are-steps run asked a0 a1 aw al am next b0 b1 bw bl bm (listing.Rows k) (inr M) = gave-marked run asked k a0 a1 aw al next b0 b1 bw bl am bm M
-marked-blocks-are-steps run asked a0 a1 aw al am next b0 b1 bw bl bm (listing.Refused number) (r, x, s, m) = refused-step run _ number next r x
+marked-blocks-are-steps run asked a0 a1 aw al am next b0 b1 bw bl bm (Ok k) (inl o) = over-marked run asked k a0 a1 aw al next b0 b1 bw bl am bm o.0 o.1
+marked-blocks-are-steps run asked a0 a1 aw al am next b0 b1 bw bl bm (Ok k) (inr M) = gave-marked run asked k a0 a1 aw al next b0 b1 bw bl am bm M
+marked-blocks-are-steps run asked a0 a1 aw al am next b0 b1 bw bl bm (Err e) (r, x, s, m) = refused-step run _ e next r x
 
 -- ---- the plain walk
 

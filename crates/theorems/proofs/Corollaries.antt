@@ -7,11 +7,11 @@ use Prim.Native.Nat.{ℕ, zero, suc, ◌+◌, ◌≤◌, ◌<◌}
 use native.Mathlib.Omega.{arith}
 use lib.Dec.{eqb}
 use lib.ListN.{length, length-append}
+use Rattle.std.specs.Prelude.{Ok}
 use Rattle.lists.specs.Lists.{Has}
 use Rattle.lists.specs.Ranges.{OneTo}
 use Rattle.lists.proofs.Tests.{eqb-eq, eqb-ne, same?}
 use Rattle.book.specs.declared.types.Book.{Book}
-use Rattle.book.specs.declared.types.Committing.TheVariants.{Committed}
 use Rattle.book.specs.Shares.{first, next, committed, holder}
 use Rattle.book.specs.Calls.{opened, entered, due, commit_number, commit_answer, release_number, release_book}
 use Rattle.book.specs.Holding.{ShareHolds}
@@ -32,7 +32,7 @@ module _ (n k : ℕ) (b : Book) (C : List ℕ) (L : Ledger n k b C) where
     no_commit = λ p e. N (commit-good n k b C L tick t p (committed-number b tick t p e)).good;
     no_range = λ p q e. N (range-good b tick t p q L.long (range-committed b tick t p q e)).good;
     no_release = λ e. N (released-good b tick t e);
-    no_take = λ l0 l1 lw j p m e. N (take-good b tick t l0 l1 lw j p m e).good;
+    no_take = λ l0 l1 lw g e. N (take-good b tick t l0 l1 lw g e).good;
   }
 
   gone-after : (t : ℕ) → Gone b t → (c : Call) → Gone (book_after b c) t

@@ -9,13 +9,16 @@ use native.Mathlib.Omega.{arith}
 use lib.Dec.{leb}
 use lib.ListN.{length, take}
 use lib.Seq.{take_at, drop_at}
+use Rattle.std.specs.Prelude.{Bool, true, false, Result, Ok, Err}
 use Rattle.lists.specs.Lists.{at}
 use Rattle.lists.specs.Ranges.{OneTo}
 use Rattle.lists.proofs.Tests.{le-true}
 use Rattle.diagrams.specs.Check.{Accepts, Refuses}
 use Rattle.diagrams.specs.Isomorphism.{Isomorphic, RootedIsomorphic}
-use Rattle.diagrams.specs.declared.Verdict.TheVariants as verdict
-use Rattle.diagrams.proofs.Checks.{accepts-rooted, checked_once}
+use Rattle.refusals.specs.declared.Refusal.{Refusal}
+use Rattle.refusals.specs.Numbers.{number}
+use Rattle.diagrams.proofs.Checks.{accepts-rooted}
+use Rattle.diagrams.proofs.Checks as checks
 use Rattle.diagrams.proofs.Isomorphisms.{root-isomorphic-isomorphic}
 use Rattle.words.specs.Word.{Pair, spell}
 use Rattle.words.specs.Order.{same}
@@ -23,8 +26,6 @@ use Rattle.words.specs.Outputs.{Written}
 use Rattle.words.proofs.Order.{same_true, same_self}
 use Rattle.words.proofs.Shape.{spells-word, word_length}
 use Rattle.words.proofs.Spelled.{spelled-lengths}
-use Rattle.words_reading.specs.declared.Reading.{Reading}
-use Rattle.words_reading.specs.declared.Reading.TheVariants.{Size, Refused}
 use Rattle.words_reading.specs.Read.{Read, refused, built, read, with_room, reading_answer, ReadPromise}
 use Rattle.words_reading.proofs.Spelling.{spell-read, read-spell, read_size}
 use Rattle.labelling.specs.Labelling.{word_of, characteristic}
@@ -32,17 +33,14 @@ use Rattle.labelling.specs.Rootings.{least_word, Kept, symmetries}
 use Rattle.labelling.proofs.Ended.{label-ends}
 use Rattle.labelling.proofs.OfLists.{labels_carry, characteristic-accepted, characteristic-size, characteristic-isomorphic, word-spelled, word-of-size, isomorphic-words, words-isomorphic, words-results, results-isomorphic, spelled-word_of, spelled-accepted, spelled-characteristic}
 use Rattle.labelling.proofs.Rootings.{accepts-rerooted, LeastOf, least-word, kept-least, least_kept, rooting-isomorphic, isomorphic-rooting, isomorphic-least, least-isomorphic}
-use Rattle.labelling_answers.specs.declared.Comparison.{Comparison}
-use Rattle.labelling_answers.specs.declared.Comparison.TheVariants as comparison
-use Rattle.labelling_answers.specs.declared.Symmetry.TheVariants as symmetry
+use Rattle.labelling_answers.specs.declared.SideRefusal.{SideRefusal}
+use Rattle.labelling_answers.specs.Answers.{side_number}
 use Rattle.labelling_operations.specs.Promises.{RefusedSide, CompareRootedPromise, CompareUnrootedPromise, SymmetriesPromise}
 use Rattle.listing.specs.Listing.{listing, count}
 use Rattle.listing.specs.Position.{word_at, position}
 use Rattle.listing.specs.Diagrams.{diagram_at}
 use Rattle.listing.proofs.Positions.{position_at}
 use Rattle.listing.proofs.InPlace.{at-spells, at_size, at-word_of, position-isomorphic}
-use Rattle.listing_ranking.specs.declared.Total.TheVariants as total
-use Rattle.listing_ranking.specs.declared.Place.TheVariants as place
 use Rattle.listing_ranking.specs.Promises.{CountPromise, PositionPromise}
 use Rattle.theorems.specs.Invariants.{Counts}
 use Rattle.theorems.specs.Demand2.{ResultIsomorphic, EqualExactly, ReadsBack, ReadsExactly, LabelsBack, UnrootedExactly, Characteristic, KeptOnce, Outputs, front, items, Relabels, WritesAt, Reads, HandsBack, ReadsSpelled, RelabelHolds, RelabelsExactly, ReadHolds, CompareHolds, SymmetriesHold, PositionsHold, Demand2}
@@ -171,8 +169,8 @@ unfolding reading_answer
 read_answer w D a b e h k = rw (e, le-true (length D.black) a h, le-true (length D.black) b k)
 
 -- what read word leaves where it built the diagram
-gave-front : (w : List ℕ) (D : Pair) → spell w ≡ some D → (O : Outputs) (r : Reading) → ReadPromise (built D) r O.s0 O.s1 O.s0_after O.s1_after
-    → (r ≡ Size (length D.black)) × (front (length D.black) O ≡ D)
+gave-front : (w : List ℕ) (D : Pair) → spell w ≡ some D → (O : Outputs) (r : Result ℕ Refusal) → ReadPromise (built D) r O.s0 O.s1 O.s0_after O.s1_after
+    → (r ≡ Ok (length D.black)) × (front (length D.black) O ≡ D)
 gave-front w D e O r (a, b, c) =
     let x : take (length D.black) O.s0_after ≡ D.black = rw b (take_at D.black _ (length D.black) refl) in
     let y : take (length D.black) O.s1_after ≡ D.white = rw c (take_at D.white _ (length D.black) (spelled-lengths w D e)) in
@@ -181,20 +179,17 @@ gave-front w D e O r (a, b, c) =
 reads_spelled : (w : List ℕ) (D : Pair) → spell w ≡ some D → length D.black ≤ 1024 → ReadsSpelled w D
 reads_spelled w D e l O r h k G = gave-front w D e O r (rw (read_answer w D (length O.s0) (length O.s1) (spelled-read w D e l) h k) at G)
 
-not-refused : (k n : ℕ) → ¬ (Size n ≡ Refused k)
-not-refused k n e = let z : ◌≡◌ {A = ℕ} 0 1 = cc in omega arith
-
 module _ (n : ℕ) (x0 x1 y0 y1 : List ℕ) where
-  cond-gave : (c : Bool) (q : Read) → ReadPromise (cond c q (refused 9)) (Size n) x0 x1 y0 y1 → ReadPromise q (Size n) x0 x1 y0 y1
+  cond-gave : (c : Bool) (q : Read) → ReadPromise (cond c q (refused 9)) (Ok n) x0 x1 y0 y1 → ReadPromise q (Ok n) x0 x1 y0 y1
   cond-gave true q G = G
-  cond-gave false q G = absurd (not-refused 9 n G.0)
+  cond-gave false q G = absurd G.0
 
   -- an answer that gives a size is that of a word which is read
-  gave-room : (q : Read) (a b : ℕ) → ReadPromise (with_room q a b) (Size n) x0 x1 y0 y1 → (D : Pair) × (q ≡ built D) × ReadPromise (built D) (Size n) x0 x1 y0 y1
-  gave-room (refused k) a b G = absurd (not-refused k n G.0)
+  gave-room : (q : Read) (a b : ℕ) → ReadPromise (with_room q a b) (Ok n) x0 x1 y0 y1 → (D : Pair) × (q ≡ built D) × ReadPromise (built D) (Ok n) x0 x1 y0 y1
+  gave-room (refused k) a b G = absurd G.0
   gave-room (built D) a b G = (D, refl, cond-gave (leb (length D.black) b) (built D) (cond-gave (leb (length D.black) a) _ G))
 
-  gave_read : (w : List ℕ) (a b : ℕ) → ReadPromise (reading_answer w a b) (Size n) x0 x1 y0 y1 → (D : Pair) × (read w ≡ built D) × ReadPromise (built D) (Size n) x0 x1 y0 y1
+  gave_read : (w : List ℕ) (a b : ℕ) → ReadPromise (reading_answer w a b) (Ok n) x0 x1 y0 y1 → (D : Pair) × (read w ≡ built D) × ReadPromise (built D) (Ok n) x0 x1 y0 y1
   unfolding reading_answer
   gave_read w a b G = gave-room (read w) a b G
 
@@ -240,10 +235,10 @@ relabels_exactly s0 s1 r O m C t0 t1 q P k E =
     }
 
 -- the diagram that read word gave is the one that the word spells
-reads : (w : List ℕ) (O : Outputs) (n : ℕ) → Reads w O (Size n) → ReadHolds w O n
+reads : (w : List ℕ) (O : Outputs) (n : ℕ) → Reads w O (Ok n) → ReadHolds w O n
 reads w O n G = record { spelled = e ∙ ap some (sym f); accepted = rw (x, y) (spelled-accepted w D e l); writes_back = writes_back }
   where
-    g : (D : Pair) × (read w ≡ built D) × ReadPromise (built D) (Size n) O.s0 O.s1 O.s0_after O.s1_after
+    g : (D : Pair) × (read w ≡ built D) × ReadPromise (built D) (Ok n) O.s0 O.s1 O.s0_after O.s1_after
     g = gave_read n O.s0 O.s1 O.s0_after O.s1_after w (length O.s0) (length O.s1) G
 
     D : Pair
@@ -259,7 +254,7 @@ reads w O n G = record { spelled = e ∙ ap some (sym f); accepted = rw (x, y) (
     s = let q = g.2.0 in cc
 
     f : front n O ≡ D
-    f = rw s at (gave-front w D e O (Size n) g.2).1
+    f = rw s at (gave-front w D e O (Ok n) g.2).1
 
     x : take n O.s0_after ≡ D.black
     x = ap (λ (p : Pair). p.black) f
@@ -278,25 +273,25 @@ reads w O n G = record { spelled = e ∙ ap some (sym f); accepted = rw (x, y) (
 -- ---- compare and symmetries
 
 pub not-both : (s0 s1 : List ℕ) (root k : ℕ) → Accepts s0 s1 root → Refuses s0 s1 root k → ⊥
-not-both s0 s1 root k A R = let e = checked_once s0 s1 root verdict.Accepted (verdict.Refused k) A R in let z : ◌≡◌ {A = ℕ} 0 1 = cc in omega arith
+not-both s0 s1 root k A R = checks.not-both s0 s1 root k A R
 
 module _ (s0 s1 : List ℕ) (r : ℕ) (A : Accepts s0 s1 r) (t0 t1 : List ℕ) (q : ℕ) (B : Accepts t0 t1 q) where
   no-side : (k side : ℕ) → RefusedSide s0 s1 r t0 t1 q k side → ⊥
   no-side k side (inl x) = not-both s0 s1 r k A x.1
   no-side k side (inr x) = not-both t0 t1 q k B x.2
 
-  different : ¬ (comparison.Different ≡ comparison.Same)
+  different : ¬ (◌≡◌ {A = Result Bool SideRefusal} (Ok false) (Ok true))
   different e = let z : ◌≡◌ {A = ℕ} 0 1 = cc in omega arith
 
-  with_roots : (a : Comparison) → CompareRootedPromise s0 s1 r t0 t1 q a → (a ≡ comparison.Same) ↔ (word_of s0 s1 r ≡ word_of t0 t1 q)
-  with_roots comparison.Same c = (λ e. isomorphic-words s0 s1 r A t0 t1 q B c.2, λ w. refl)
-  with_roots comparison.Different c = (λ e. absurd (different e), λ w. absurd (c.2 (words-isomorphic s0 s1 r A t0 t1 q B w)))
-  with_roots (comparison.Refused k side) c = absurd (no-side k side c)
+  with_roots : (a : Result Bool SideRefusal) → CompareRootedPromise s0 s1 r t0 t1 q a → (a ≡ Ok true) ↔ (word_of s0 s1 r ≡ word_of t0 t1 q)
+  with_roots (Ok true) c = (λ e. isomorphic-words s0 s1 r A t0 t1 q B c.2, λ w. refl)
+  with_roots (Ok false) c = (λ e. absurd (different e), λ w. absurd (c.2 (words-isomorphic s0 s1 r A t0 t1 q B w)))
+  with_roots (Err r) c = absurd (no-side (number r.refusal) (side_number r.side) c)
 
-  without_roots : (a : Comparison) → CompareUnrootedPromise s0 s1 r t0 t1 q a → (a ≡ comparison.Same) ↔ (least_word s0 s1 ≡ least_word t0 t1)
-  without_roots comparison.Same c = (λ e. isomorphic-least s0 s1 r A t0 t1 q B c.2, λ w. refl)
-  without_roots comparison.Different c = (λ e. absurd (different e), λ w. absurd (c.2 (least-isomorphic s0 s1 r A t0 t1 q B w)))
-  without_roots (comparison.Refused k side) c = absurd (no-side k side c)
+  without_roots : (a : Result Bool SideRefusal) → CompareUnrootedPromise s0 s1 r t0 t1 q a → (a ≡ Ok true) ↔ (least_word s0 s1 ≡ least_word t0 t1)
+  without_roots (Ok true) c = (λ e. isomorphic-least s0 s1 r A t0 t1 q B c.2, λ w. refl)
+  without_roots (Ok false) c = (λ e. absurd (different e), λ w. absurd (c.2 (least-isomorphic s0 s1 r A t0 t1 q B w)))
+  without_roots (Err r) c = absurd (no-side (number r.refusal) (side_number r.side) c)
 
   compares : CompareHolds s0 s1 r t0 t1 q
   compares = record { with_roots = with_roots; without_roots = without_roots }
@@ -324,19 +319,19 @@ module _ (n p : ℕ) (O : Outputs) (m : ℕ) (G : WritesAt n p O m) where
   given_back : HandsBack n m O
   given_back = hands_back (word_at n p) (diagram_at n p) (at-spells n p G.1) small n (at_size n p G.1) O G.4 m G.3
 
-  position_of : (q : ℕ) → PositionPromise (front n O).black (front n O).white 1 (place.Number q) → q ≡ p
+  position_of : (q : ℕ) → PositionPromise (front n O).black (front n O).white 1 (Ok q) → q ≡ p
   position_of q L =
       L.2
       ∙ ap (λ (D : Pair). position (length D.black) (word_of D.black D.white 1)) given-front
       ∙ rw (at_size n p G.1, at-word_of n p G.1) (position_at n p G.1)
 
-at_position : (s0 s1 : List ℕ) (root p : ℕ) → PositionPromise s0 s1 root (place.Number p) → (O : Outputs) (m : ℕ) → WritesAt (length s0) p O m
+at_position : (s0 s1 : List ℕ) (root p : ℕ) → PositionPromise s0 s1 root (Ok p) → (O : Outputs) (m : ℕ) → WritesAt (length s0) p O m
     → RootedIsomorphic s0 s1 root (front (length s0) O).black (front (length s0) O).white 1
 at_position s0 s1 root p L O m G =
     let e = given-front (length s0) p O m G in
     rw (ap (λ (D : Pair). D.black) e, ap (λ (D : Pair). D.white) e, L.2) (position-isomorphic s0 s1 root L.0)
 
-counted-listing : (n k : ℕ) → CountPromise n (total.Number k) → k ≡ length (listing n)
+counted-listing : (n k : ℕ) → CountPromise n (Ok k) → k ≡ length (listing n)
 unfolding count
 counted-listing n k C = C.1
 

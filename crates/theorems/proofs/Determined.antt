@@ -3,9 +3,11 @@ use mathlib.Core.Path.{◌≡◌, sym, ◌∙◌}
 use mathlib.Core.List.{List}
 use Prim.Native.Nat.{ℕ}
 use lib.ListN.{length}
+use Rattle.std.specs.Prelude.{Result}
 use Rattle.words_reading.specs.Read.{reading_answer}
 use Rattle.book.specs.declared.types.Book.{Book}
-use Rattle.book.specs.declared.types.Taking.{Taking}
+use Rattle.refusals.specs.declared.Refusal.{Refusal}
+use Rattle.book.specs.declared.types.Taken.{Taken}
 use Rattle.book.specs.Taken.{TakePromise}
 use Rattle.theorems.specs.Determined.{SameLists, Determined}
 pub mod Diagrams
@@ -17,7 +19,7 @@ use Rattle.theorems.proofs.Determined.Texts.{rows_once}
 use Rattle.theorems.proofs.Determined.Rows.{begin_once, begin_at_once, step_once, list_once, list_marked_once}
 use Rattle.theorems.proofs.Determined.Upto.{upto_begin_once, upto_step_once}
 
-take_once : (book : Book) (tick t : ℕ) (a0 a1 aw : List ℕ) (r q : Taking) (b c : Book) (b0 b1 bw c0 c1 cw : List ℕ)
+take_once : (book : Book) (tick t : ℕ) (a0 a1 aw : List ℕ) (r q : Result Taken Refusal) (b c : Book) (b0 b1 bw c0 c1 cw : List ℕ)
     → TakePromise book tick t a0 a1 aw r b b0 b1 bw → TakePromise book tick t a0 a1 aw q c c0 c1 cw
     → (r ≡ q) × (b ≡ c) × SameLists b0 b1 bw c0 c1 cw
 take_once book tick t a0 a1 aw r q b c b0 b1 bw c0 c1 cw x y = (

@@ -7,6 +7,7 @@ use mathlib.Core.List.{List, [], ◌∷◌, ◌++◌, append_assoc, append-nil}
 use Prim.Native.Nat.{ℕ, suc, ◌-◌, ◌≤◌, ◌<◌}
 use native.Mathlib.Omega.{arith}
 use lib.ListN.{length}
+use Rattle.std.specs.Prelude.{Bool, false, Result, Ok, Err}
 use Rattle.lists.specs.Lists.{at, Has}
 use Rattle.lists.specs.Ranges.{OneTo}
 use Rattle.lists.proofs.Tests.{eqb-eq, eqb-ne, same?}
@@ -22,10 +23,9 @@ use Rattle.listing.specs.Diagrams.{diagram_at}
 use Rattle.listing.proofs.Positions.{at_once}
 use Rattle.listing.proofs.InPlace.{at_size, at-word_of, at-characteristic, at-accepted, position-counted, position-isomorphic, position-only}
 use Rattle.book.specs.declared.types.Book.{Book}
-use Rattle.book.specs.declared.types.Opening.TheVariants.{Opened}
-use Rattle.book.specs.declared.types.Taking.TheVariants.{Given}
-use Rattle.book.specs.declared.types.Committing.TheVariants.{Committed}
-use Rattle.book.specs.declared.types.Reporting.TheVariants.{Progress}
+use Rattle.refusals.specs.declared.Refusal.{Refusal}
+use Rattle.book.specs.declared.types.Taken.{Taken}
+use Rattle.book.specs.declared.types.Progress.{Progress}
 use Rattle.book.specs.Shares.{first, next, ticket, committed, complete, holder}
 use Rattle.book.specs.Valid.{among}
 use Rattle.book.specs.Calls.{unless, open_number, open_answer, open_book, opened, due, take_number, take_list, book_moved_on, commit_answer, commit_book, positions, commit_range_answer, commit_range_book, report_answer}
@@ -37,7 +37,7 @@ use Rattle.book.proofs.Accepted.{zero-unless, TicketAt, ticket-unfinished}
 use Rattle.book.proofs.Ledger.{Ledger, passed-held, next-uncommitted, ledger-opened, finished_all, all_finished, complete-shares, shares-complete}
 use Rattle.book.proofs.CallLaws.{ledger-claim, ledger-take, ledger-commit, ledger-release, commit-good, committed-number, take-good}
 use Rattle.book.proofs.CommitRange.{moved-next, good-in, ledger-range, range-good, range-committed}
-use Rattle.theorems.specs.FirstList.{Call, claim, take, commit, commit_range, release, report, book_after, book_after_all, committed_by, commits, ShareFinished, IsAt, EachOnce, InPlace, Due, TakeGives, CommitRecords, RangeRecords, FirstList, FirstListHolds}
+use Rattle.theorems.specs.FirstList.{Call, claim, take, commit, commit_range, release, report, book_after, book_after_all, committed_by, commits, ShareFinished, IsAt, EachOnce, InPlace, Due, TakeGives, CommitRecords, RangeRecords, FirstList, FirstListHolds, reported}
 
 -- ---- the ledger along a list
 
@@ -84,7 +84,7 @@ pub record OpenGood (lent : Book) (n k : ℕ) : Type 0 where
   pub shares_in : OneTo 32 k
   pub left : open_book lent n k ≡ opened n k
 
-pub open-good : (lent : Book) (n k : ℕ) → open_answer n k ≡ Opened → OpenGood lent n k
+pub open-good : (lent : Book) (n k : ℕ) → open_answer n k ≡ Ok tt → OpenGood lent n k
 unfolding open_answer open_book
 open-good lent n k e = go (same? (open_number n k) 0)
   where
@@ -113,13 +113,18 @@ module _ (n k : ℕ) (N : OneTo 50 n) (K : OneTo 32 k) (calls : List Call) where
   committed-in : (p : ℕ) → Has p C → OneTo (count n) p
   committed-in p h = let q = ledger.from_share p h in held_in n k some q.0 p (passed-held ledger q.0 p q.1 q.2 q.3)
 
-  counts : report_answer b ≡ Progress (length C) (complete b)
+  counts : report_answer b ≡ reported (length C) (complete b)
   unfolding report_answer
   counts = rw (facts-valid b ledger.is_valid, ledger.total)
 
+  -- what a report says
+  abbrev said : Result Progress Refusal → Bool
+  said (Ok p) = p.complete
+  said (Err e) = false
+
   -- the report says complete exactly if the book is
-  says-complete : (report_answer b ≡ Progress (length C) true) ↔ (complete b ≡ true)
-  says-complete = (λ e. (let q = sym counts ∙ e in cc), λ c. counts ∙ ap (Progress (length C)) c)
+  says-complete : (report_answer b ≡ reported (length C) true) ↔ (complete b ≡ true)
+  says-complete = (λ e. ap said (sym counts ∙ e), λ c. counts ∙ ap (reported (length C)) c)
 
   complete_exactly : (complete b ≡ true) ↔ ((j : ℕ) → OneTo k j → ShareFinished n k C j)
   complete_exactly = (
@@ -172,10 +177,10 @@ module _ (n k : ℕ) (N : OneTo 50 n) (K : OneTo 32 k) (calls : List Call) where
   unfolding take_list
   listed-over tick t l0 l1 lw x a e = rw (eqb-eq _ _ e)
 
-  takes : (tick t : ℕ) (s0 s1 word : List ℕ) (j p m : ℕ) (b' : Book) (c0 c1 cw : List ℕ) → TakePromise b tick t s0 s1 word (Given j p m) b' c0 c1 cw → TakeGives n k b C t s0 s1 word j p m c0 c1 cw
+  takes : (tick t : ℕ) (s0 s1 word : List ℕ) (g : Taken) (b' : Book) (c0 c1 cw : List ℕ) → TakePromise b tick t s0 s1 word (Ok g) b' c0 c1 cw → TakeGives n k b C t s0 s1 word g.share g.position g.length c0 c1 cw
   unfolding due
-  takes tick t s0 s1 word j p m b' c0 c1 cw T =
-      let G = take-good b tick t (length s0) (length s1) (length word) j p m (sym T.answered) in
+  takes tick t s0 s1 word g b' c0 c1 cw T =
+      let G = take-good b tick t (length s0) (length s1) (length word) g (sym T.answered) in
       let z = ledger.sized in
       rw (G.share-is, G.position-is) record {
         due = is-due t G.good.stands;
@@ -187,7 +192,7 @@ module _ (n k : ℕ) (N : OneTo 50 n) (K : OneTo 32 k) (calls : List Call) where
         };
       }
 
-  records : (tick t p : ℕ) → commit_answer b tick t p ≡ Committed → CommitRecords n k b C t p (commit_book b tick t p)
+  records : (tick t p : ℕ) → commit_answer b tick t p ≡ Ok tt → CommitRecords n k b C t p (commit_book b tick t p)
   unfolding commit_book book_moved_on
   records tick t p e =
       let z = committed-number b tick t p e in
@@ -202,7 +207,7 @@ module _ (n k : ℕ) (N : OneTo 50 n) (K : OneTo 32 k) (calls : List Call) where
   unfolding positions
   in_range p q l x = (λ h. (let i = stretch-has p (suc q - p) x h in omega arith), λ i. has-stretch p (suc q - p) x i.0 (let u = i.1 in omega arith))
 
-  records_range : (tick t p q : ℕ) → commit_range_answer b tick t p q ≡ Committed → RangeRecords n k b C t p q (commit_range_book b tick t p q)
+  records_range : (tick t p q : ℕ) → commit_range_answer b tick t p q ≡ Ok tt → RangeRecords n k b C t p q (commit_range_book b tick t p q)
   records_range tick t p q e =
       let G = range-good b tick t p q ledger.long (range-committed b tick t p q e) in
       let D = is-due t G.good.stands in

@@ -7,6 +7,7 @@ use Prim.Native.Nat.{ℕ, zero, suc, ◌+◌, ◌≤◌, ◌<◌}
 use native.Mathlib.Omega.{arith}
 use lib.Dec.{eqb}
 use lib.ListN.{length}
+use Rattle.std.specs.Prelude.{Result, Ok, Err}
 use Rattle.lists.specs.Lists.{at, Has, Distinct}
 use Rattle.lists.specs.Ranges.{OneTo, card}
 use Rattle.lists.proofs.Tests.{same?, lt?, eqb-eq, eqb-true}
@@ -23,9 +24,8 @@ use Rattle.invariants_cycles.proofs.LevelBound.{level_bound}
 use Rattle.invariants_cycles.proofs.Orders.{level_order}
 use Rattle.invariants_cycles.proofs.InvariantsIsomorphic.{invariants-isomorphic}
 use Rattle.invariants.specs.declared.Numbers.{Numbers}
-use Rattle.invariants.specs.declared.Measured.{Measured}
-use Rattle.invariants.specs.declared.Measured.TheVariants.{Known, Refused}
-use Rattle.invariants.specs.Answers.{invariants_number}
+use Rattle.refusals.specs.declared.Refusal.{Refusal}
+use Rattle.refusals.specs.Numbers.{number, refusal_number}
 use Rattle.invariants.specs.Promises.{Invariants, Outgrown, InvariantsPromise}
 use Rattle.invariants.proofs.SmallLevels.{small-level}
 use Rattle.invariants.proofs.Differences.{t_of}
@@ -148,7 +148,7 @@ fixes-are n g = counted n (λ i. eqb (g i) i) (λ i. g i ≡ i) (λ x e. (eqb-tr
 permutes : (s0 s1 : List ℕ) (root : ℕ) → Accepts s0 s1 root → Permutation (length s0) (cusp_map (at s0) (at s1))
 permutes s0 s1 root A = laws.around-perm (accepts-diagram s0 s1 root A).maps
 
-measured : (s0 s1 : List ℕ) (root : ℕ) (x : Numbers) → InvariantsPromise s0 s1 root (Known x) → Means (length s0) (at s0) (at s1) x
+measured : (s0 s1 : List ℕ) (root : ℕ) (x : Numbers) → InvariantsPromise s0 s1 root (Ok x) → Means (length s0) (at s0) (at s1) x
 measured s0 s1 root x (A, _, I) = record {
   e2_is = rw I.e2_is (fixes-are n (at s1));
   e3_is = rw I.e3_is (fixes-are n (at s0));
@@ -179,29 +179,29 @@ isomorphic_same s0 s1 r A t0 t1 i x I =
 
 -- ---- the refusal of the level
 
-outgrown : (s0 s1 : List ℕ) (root : ℕ) (a : Measured) → InvariantsPromise s0 s1 root a
-    → (invariants_number a ≡ 62) ↔ (Accepts s0 s1 root × ((m : ℕ) × Level (length s0) (cusp_map (at s0) (at s1)) m × Over64Bits m))
-outgrown s0 s1 root (Known x) (A, few, I) = (λ e. absurd (omega arith), λ h. absurd (few (rw (level_only (level_is (permutes s0 s1 root A)) h.1.1) h.1.2)))
-outgrown s0 s1 root (Refused k) (inl R) = (λ e. (let i = refuses-most s0 s1 root k R in absurd (omega arith)), λ h. absurd (not-both s0 s1 root k h.0 R))
-outgrown s0 s1 root (Refused k) (inr (e, A, O)) = (λ _. (A, (_, level_is (permutes s0 s1 root A), O)), λ _. e)
+outgrown : (s0 s1 : List ℕ) (root : ℕ) (a : Result Numbers Refusal) → InvariantsPromise s0 s1 root a
+    → (refusal_number a ≡ 62) ↔ (Accepts s0 s1 root × ((m : ℕ) × Level (length s0) (cusp_map (at s0) (at s1)) m × Over64Bits m))
+outgrown s0 s1 root (Ok x) (A, few, I) = (λ e. absurd (omega arith), λ h. absurd (few (rw (level_only (level_is (permutes s0 s1 root A)) h.1.1) h.1.2)))
+outgrown s0 s1 root (Err r) (inl R) = (λ e. (let i = refuses-most s0 s1 root (number r) R in absurd (omega arith)), λ h. absurd (not-both s0 s1 root (number r) h.0 R))
+outgrown s0 s1 root (Err r) (inr (e, A, O)) = (λ _. (A, (_, level_is (permutes s0 s1 root A), O)), λ _. e)
 
-known-otherwise : (s0 s1 : List ℕ) (root : ℕ) (a : Measured) → InvariantsPromise s0 s1 root a → (Accepts s0 s1 root → ¬ Outgrown s0 s1) → invariants_number a ≢ 62
-known-otherwise s0 s1 root (Known x) P few e = omega arith
-known-otherwise s0 s1 root (Refused k) (inl R) few e = let i = refuses-most s0 s1 root k R in omega arith
-known-otherwise s0 s1 root (Refused k) (inr (_, A, O)) few e = few A O
+known-otherwise : (s0 s1 : List ℕ) (root : ℕ) (a : Result Numbers Refusal) → InvariantsPromise s0 s1 root a → (Accepts s0 s1 root → ¬ Outgrown s0 s1) → refusal_number a ≢ 62
+known-otherwise s0 s1 root (Ok x) P few e = omega arith
+known-otherwise s0 s1 root (Err r) (inl R) few e = let i = refuses-most s0 s1 root (number r) R in omega arith
+known-otherwise s0 s1 root (Err r) (inr (_, A, O)) few e = few A O
 
 -- ---- isomorphic diagrams
 
 -- what is promised of the one is promised of the other
-carried : (s0 s1 : List ℕ) (r : ℕ) → Accepts s0 s1 r → (a : Measured) → InvariantsPromise s0 s1 r a
+carried : (s0 s1 : List ℕ) (r : ℕ) → Accepts s0 s1 r → (a : Result Numbers Refusal) → InvariantsPromise s0 s1 r a
     → (t0 t1 : List ℕ) (q : ℕ) → Accepts t0 t1 q → Isomorphic s0 s1 t0 t1 → InvariantsPromise t0 t1 q a
-carried s0 s1 r A (Known x) P t0 t1 q B i =
+carried s0 s1 r A (Ok x) P t0 t1 q B i =
     (B, λ far. P.1 (rw (invariants-isomorphic (accepts-diagram s0 s1 r A).maps i).level_same far), isomorphic_same s0 s1 r A t0 t1 i x P.2)
-carried s0 s1 r A (Refused k) (inl R) t0 t1 q B i = absurd (not-both s0 s1 r k A R)
-carried s0 s1 r A (Refused k) (inr O) t0 t1 q B i = inr (O.0, B, rw (← (invariants-isomorphic (accepts-diagram s0 s1 r A).maps i).level_same) O.2)
+carried s0 s1 r A (Err refusal) (inl R) t0 t1 q B i = absurd (not-both s0 s1 r (number refusal) A R)
+carried s0 s1 r A (Err refusal) (inr O) t0 t1 q B i = inr (O.0, B, rw (← (invariants-isomorphic (accepts-diagram s0 s1 r A).maps i).level_same) O.2)
 
-isomorphic_measured : (s0 s1 : List ℕ) (r : ℕ) → Accepts s0 s1 r → (a : Measured) → InvariantsPromise s0 s1 r a
-    → (t0 t1 : List ℕ) (q : ℕ) → Accepts t0 t1 q → (b : Measured) → InvariantsPromise t0 t1 q b → Isomorphic s0 s1 t0 t1 → a ≡ b
+isomorphic_measured : (s0 s1 : List ℕ) (r : ℕ) → Accepts s0 s1 r → (a : Result Numbers Refusal) → InvariantsPromise s0 s1 r a
+    → (t0 t1 : List ℕ) (q : ℕ) → Accepts t0 t1 q → (b : Result Numbers Refusal) → InvariantsPromise t0 t1 q b → Isomorphic s0 s1 t0 t1 → a ≡ b
 isomorphic_measured s0 s1 r A a P t0 t1 q B b Q i = invariants_once t0 t1 q a b (carried s0 s1 r A a P t0 t1 q B i) Q
 
 pub invariants-hold : InvariantsHold

@@ -5,6 +5,7 @@ use mathlib.Core.List.{List}
 use Prim.Native.Nat.{ℕ}
 use native.Mathlib.Omega.{arith}
 use lib.ListN.{length}
+use Rattle.std.specs.Prelude.{Bool, true, false, Result, Ok, Err}
 use Rattle.lists.specs.Ranges.{OneTo}
 use Rattle.diagrams.specs.Check.{Accepts}
 use Rattle.diagrams.specs.Isomorphism.{Isomorphic}
@@ -18,8 +19,8 @@ use Rattle.listing.specs.Listing.{count}
 use Rattle.listing.specs.Position.{position}
 use Rattle.listing.specs.Diagrams.{diagram_at}
 use Rattle.listing.proofs.InPlace.{at-accepted, position-diagram}
-use Rattle.labelling_answers.specs.declared.KeepMark.{KeepMark}
-use Rattle.labelling_answers.specs.declared.KeepMark.TheVariants.{Yes, No, Refused}
+use Rattle.refusals.specs.declared.Refusal.{Refusal}
+use Rattle.refusals.specs.Numbers.{number}
 use Rattle.labelling_operations.specs.Promises.{KeptPromise}
 use Rattle.theorems.specs.Demand2.{KeptOnce}
 use Rattle.theorems.specs.KeepMark.{KeptAnswers, AtPosition, MarkedOnce, KeepMarkHolds}
@@ -29,15 +30,15 @@ use Rattle.theorems.proofs.Demand2.{not-both, kept_once}
 -- ---- what kept answers
 
 module _ (s0 s1 : List ℕ) (root : ℕ) (A : Accepts s0 s1 root) where
-  only_yes : Kept s0 s1 root → (a : KeepMark) → KeptPromise s0 s1 root a → a ≡ Yes
-  only_yes k Yes M = refl
-  only_yes k No M = absurd (M.1 k)
-  only_yes k (Refused j) M = absurd (not-both s0 s1 root j A M)
+  only_yes : Kept s0 s1 root → (a : Result Bool Refusal) → KeptPromise s0 s1 root a → a ≡ Ok true
+  only_yes k (Ok true) M = refl
+  only_yes k (Ok false) M = absurd (M.1 k)
+  only_yes k (Err e) M = absurd (not-both s0 s1 root (number e) A M)
 
-  only_no : ¬ Kept s0 s1 root → (a : KeepMark) → KeptPromise s0 s1 root a → a ≡ No
-  only_no n Yes M = absurd (n M.1)
-  only_no n No M = refl
-  only_no n (Refused j) M = absurd (not-both s0 s1 root j A M)
+  only_no : ¬ Kept s0 s1 root → (a : Result Bool Refusal) → KeptPromise s0 s1 root a → a ≡ Ok false
+  only_no n (Ok true) M = absurd (n M.1)
+  only_no n (Ok false) M = refl
+  only_no n (Err e) M = absurd (not-both s0 s1 root (number e) A M)
 
 -- ---- the class of a diagram of the size
 
@@ -74,7 +75,7 @@ module _ (n : ℕ) (N : OneTo 50 n) (s0 s1 : List ℕ) (root : ℕ) (A : Accepts
   accepted : (q : ℕ) → OneTo (count n) q → Accepts (diagram_at n q).black (diagram_at n q).white 1
   accepted q e = at-accepted n q e (omega arith)
 
-  only : (q : ℕ) → AtPosition n s0 s1 q → KeptAnswers n q Yes → q ≡ p
+  only : (q : ℕ) → AtPosition n s0 s1 q → KeptAnswers n q (Ok true) → q ≡ p
   only q (e, i) M =
       let back = isomorphic-trans (isomorphic-sym (accepts-diagram s0 s1 root A).maps joined) i in
       let same = once.only (diagram_at n q) (in_place n N q e).in_form back M.1 in

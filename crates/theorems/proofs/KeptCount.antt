@@ -6,6 +6,7 @@ use mathlib.Core.List.{List, [], ◌∷◌}
 use Prim.Native.Nat.{ℕ, zero, suc, ◌+◌, ◌≤◌}
 use native.Mathlib.Omega.{arith}
 use lib.ListN.{length}
+use Rattle.std.specs.Prelude.{true, Ok}
 use Rattle.lists.specs.Lists.{Has, Distinct}
 use Rattle.lists.specs.Ranges.{OneTo}
 use Rattle.lists.proofs.Tests.{same?}
@@ -21,7 +22,6 @@ use Rattle.labelling.proofs.Rootings.{kept-least, least_kept}
 use Rattle.listing.specs.Listing.{count}
 use Rattle.listing.specs.Diagrams.{diagram_at}
 use Rattle.listing.proofs.InPlace.{at_size, at-accepted}
-use Rattle.labelling_answers.specs.declared.KeepMark.TheVariants.{Yes}
 use Rattle.census_definition.specs.Census.{is_kept_word, kept_among, kept_count}
 use Rattle.theorems.specs.KeepMark.{KeptAnswers, AtPosition}
 use Rattle.theorems.specs.KeptCount.{InOne, Representatives, CountedClasses, KeptCountHolds}
@@ -96,10 +96,10 @@ module _ (n : ℕ) (N : OneTo 50 n) where
   some : (p : ℕ) → OneTo (count n) p → 1 ≤ length (diagram_at n p).black
   some p e = (accepted p e).size.0
 
-  marked : (p : ℕ) → Has p (kept_positions n (count n)) → KeptAnswers n p Yes
+  marked : (p : ℕ) → Has p (kept_positions n (count n)) → KeptAnswers n p (Ok true)
   marked p h = let o = has-passing (kept_at n) (count n) p h in (accepted p o.0, true-kept (diagram_at n p) (some p o.0) o.1)
 
-  all_marked : (p : ℕ) → OneTo (count n) p → KeptAnswers n p Yes → Has p (kept_positions n (count n))
+  all_marked : (p : ℕ) → OneTo (count n) p → KeptAnswers n p (Ok true) → Has p (kept_positions n (count n))
   all_marked p e M = passing-has (kept_at n) (count n) p e (kept-true (diagram_at n p) (some p e) M.1)
 
   in_one : (s0 s1 : List ℕ) (root : ℕ) → Accepts s0 s1 root → length s0 ≡ n → InOne n s0 s1 (kept_positions n (count n))

@@ -7,6 +7,7 @@ use Prim.Native.Nat.{ℕ, zero, suc, ◌+◌, ◌≤◌, ◌<◌}
 use native.Mathlib.Omega.{arith}
 use lib.ListN.{length, take, drop, get_or, get_or-map}
 use lib.Seq.{take_at, take_all, drop-cons, get_or-take}
+use Rattle.std.specs.Prelude.{Option, Some, None, Result, Ok, Err}
 use Rattle.lists.specs.Lists.{All}
 use Rattle.lists.specs.Ranges.{OneTo}
 use Rattle.diagrams.specs.Check.{Accepts}
@@ -20,8 +21,7 @@ use Rattle.listing.proofs.Listing.{listing-sorted}
 use Rattle.listing.proofs.Positions.{at_once, position_at}
 use Rattle.listing_successor.proofs.Places.{word_placed}
 use Rattle.run_answers.specs.declared.Run.{Run}
-use Rattle.run_answers.specs.declared.Stepping.{Stepping}
-use Rattle.run_answers.specs.declared.Stepping.TheVariants.{Length, End, Refused}
+use Rattle.refusals.specs.declared.Refusal.{Refusal}
 use Rattle.run_steps.specs.Promises.{fresh, finished, run_after, RunAt, RunFinished, StepPromise}
 use Rattle.run_row.proofs.Blocks.{black-length, white-length}
 use Rattle.theorems.specs.FirstList.{InPlace}
@@ -37,33 +37,33 @@ Standing n p run = RunAt n p run ⊎ ((p ≡ count n) × RunFinished n run)
 -- ---- one step
 
 module _ (p : ℕ) (end next : Run) (s : Step) where
-  abbrev Result : ℕ → Stepping → Type 0
-  Result n a = StepDoes n p end next s a × Standing n (writes a + p) next
+  abbrev Does : ℕ → Result (Option ℕ) Refusal → Type 0
+  Does n a = StepDoes n p end next s a × Standing n (writes a + p) next
 
   wrote : (n m : ℕ) → OneTo 50 n → p < count n → next ≡ run_after n (suc p) → m ≡ length (word_at n (suc p))
-      → Written (diagram_at n (suc p)) (word_at n (suc p)) s.s0 s.s1 s.word s.s0_after s.s1_after s.word_after → Result n (Length m)
+      → Written (diagram_at n (suc p)) (word_at n (suc p)) s.s0 s.s1 s.word s.s0_after s.s1_after s.word_after → Does n (Ok (Some m))
   wrote n m N l x e w =
       let z : 1 + p ≡ suc p = omega arith in
       ((l, in_place n N (suc p) (omega arith), e, w), inl (rw z record { sized = N; within = l; is = x }))
 
   -- after "end" the run is finished, and all had been given
-  ended : (n : ℕ) → OneTo 50 n → p ≡ count n → next ≡ finished n → Untouched s.s0 s.s1 s.word s.s0_after s.s1_after s.word_after → Result n End
+  ended : (n : ℕ) → OneTo 50 n → p ≡ count n → next ≡ finished n → Untouched s.s0 s.s1 s.word s.s0_after s.s1_after s.word_after → Does n (Ok None)
   ended n N e x u = let z : 0 + p ≡ p = omega arith in ((e, x, u), inr (z ∙ e, record { sized = N; is = x }))
 
-  does : (n : ℕ) → OneTo 50 n → (a : Stepping) → Standing n p end → StepPromise end next s.s0 s.s1 s.word s.s0_after s.s1_after s.word_after a → Result n a
-  does n N (Length m) (inl S) (n', p', T, l, r, x, e, w) = go (given-once n p n' p' S.within T.within (sym S.is ∙ T.is))
+  does : (n : ℕ) → OneTo 50 n → (a : Result (Option ℕ) Refusal) → Standing n p end → StepPromise end next s.s0 s.s1 s.word s.s0_after s.s1_after s.word_after a → Does n a
+  does n N (Ok (Some m)) (inl S) (n', p', T, l, r, x, e, w) = go (given-once n p n' p' S.within T.within (sym S.is ∙ T.is))
     where
-      go : (n ≡ n') × (p ≡ p') → Result n (Length m)
+      go : (n ≡ n') × (p ≡ p') → Does n (Ok (Some m))
       go q = wrote n m N (rw (q.0, q.1) l) (rw (q.0, q.1) x) (rw (q.0, q.1) e) (rw (q.0, q.1) w)
-  does n N (Length m) (inr o) (n', p', T, l, r, x, e, w) = absurd (not-over n' p' n (sym T.is ∙ o.1.is))
-  does n N End (inl S) ((n', x, inl O), u) = absurd (not-over n p n' (sym S.is ∙ O.is))
-  does n N End (inl S) ((n', x, inr T), u) = go (given-once n p n' (count n') S.within T.0.within (sym S.is ∙ T.0.is))
+  does n N (Ok (Some m)) (inr o) (n', p', T, l, r, x, e, w) = absurd (not-over n' p' n (sym T.is ∙ o.1.is))
+  does n N (Ok None) (inl S) ((n', x, inl O), u) = absurd (not-over n p n' (sym S.is ∙ O.is))
+  does n N (Ok None) (inl S) ((n', x, inr T), u) = go (given-once n p n' (count n') S.within T.0.within (sym S.is ∙ T.0.is))
     where
-      go : (n ≡ n') × (p ≡ count n') → Result n End
+      go : (n ≡ n') × (p ≡ count n') → Does n (Ok None)
       go q = ended n N (q.1 ∙ ap count (sym q.0)) (rw q.0 x) u
-  does n N End (inr o) ((n', x, inl O), u) = ended n N o.0 (rw (ap (λ (r : Run). r.size) (sym o.1.is ∙ O.is)) x) u
-  does n N End (inr o) ((n', x, inr T), u) = absurd (not-over n' (count n') n (sym T.0.is ∙ o.1.is))
-  does n N (Refused k) S (r, x, u) = let z : 0 + p ≡ p = omega arith in ((x, u), rw (z, x) S)
+  does n N (Ok None) (inr o) ((n', x, inl O), u) = ended n N o.0 (rw (ap (λ (r : Run). r.size) (sym o.1.is ∙ O.is)) x) u
+  does n N (Ok None) (inr o) ((n', x, inr T), u) = absurd (not-over n' (count n') n (sym T.0.is ∙ o.1.is))
+  does n N (Err e) S (r, x, u) = let z : 0 + p ≡ p = omega arith in ((x, u), rw (z, x) S)
 
 -- ---- the rows that the steps handed back
 
@@ -73,7 +73,7 @@ front-is n x a b l e = ap (take n) e ∙ take_at x (drop (length x) a) n l
 
 row_is : (n p m : ℕ) (s : Step) → p < count n → m ≡ length (word_at n (suc p))
     → Written (diagram_at n (suc p)) (word_at n (suc p)) s.s0 s.s1 s.word s.s0_after s.s1_after s.word_after
-    → handed n s (Length m) ≡ row_of (word_at n (suc p)) ∷ []
+    → handed n s (Ok (Some m)) ≡ row_of (word_at n (suc p)) ∷ []
 unfolding diagram_at
 row_is n p m s l e w =
     let v = word_at n (suc p) in
@@ -85,18 +85,18 @@ row_is n p m s l e w =
     )
 
 -- the row that a step handed back, before k rows more
-step-rows : (n p k : ℕ) (end next : Run) (s : Step) (a : Stepping) → StepDoes n p end next s a
+step-rows : (n p k : ℕ) (end next : Run) (s : Step) (a : Result (Option ℕ) Refusal) → StepDoes n p end next s a
     → handed n s a ++ map row_of (take k (drop (writes a + p) (listing n))) ≡ map row_of (take (writes a + k) (drop p (listing n)))
 unfolding word_at count
-step-rows n p k end next s (Length m) d =
+step-rows n p k end next s (Ok (Some m)) d =
     let z : 1 + p ≡ suc p = omega arith in
     let y : 1 + k ≡ suc k = omega arith in
     rw (z, y, drop-cons (listing n) p [] d.0) (ap (λ (l : List Row). l ++ map row_of (take k (drop (suc p) (listing n)))) (row_is n p m s d.0 d.2 d.3))
-step-rows n p k end next s End d =
+step-rows n p k end next s (Ok None) d =
     let z : 0 + p ≡ p = omega arith in
     let y : 0 + k ≡ k = omega arith in
     rw (z, y)
-step-rows n p k end next s (Refused r) d =
+step-rows n p k end next s (Err r) d =
     let z : 0 + p ≡ p = omega arith in
     let y : 0 + k ≡ k = omega arith in
     rw (z, y)
@@ -138,10 +138,10 @@ standing-all n N (s ∷ steps) run end p S h =
     let z : written steps + (writes s.answer + p) ≡ (writes s.answer + written steps) + p = omega arith in
     rw z at (standing-all n N steps h.0 end (writes s.answer + p) (does p run h.0 s n N s.answer S h.1).1 h.2)
 
-ends : (n p : ℕ) (end next : Run) (s : Step) (a : Stepping) → StepDoes n p end next s a → Accepted a → (a ≡ End) ↔ (p ≡ count n)
-ends n p end next s (Length m) d c = (λ e. (let z : ◌≡◌ {A = ℕ} 0 1 = cc in absurd (omega arith)), λ e. (let l = d.0 in absurd (omega arith)))
-ends n p end next s End d c = (λ e. d.0, λ e. refl)
-ends n p end next s (Refused k) d c = absurd c
+ends : (n p : ℕ) (end next : Run) (s : Step) (a : Result (Option ℕ) Refusal) → StepDoes n p end next s a → Accepted a → (a ≡ Ok None) ↔ (p ≡ count n)
+ends n p end next s (Ok (Some m)) d c = (λ e. (let z : ◌≡◌ {A = ℕ} 0 1 = cc in absurd (omega arith)), λ e. (let l = d.0 in absurd (omega arith)))
+ends n p end next s (Ok None) d c = (λ e. d.0, λ e. refl)
+ends n p end next s (Err e) d c = absurd c
 
 -- ---- the theorem
 

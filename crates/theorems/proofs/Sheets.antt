@@ -10,6 +10,7 @@ use native.Mathlib.Omega.{arith}
 use lib.Dec.{eqb, leb}
 use lib.ListN.{length, get_or, drop, replicate, length-append, length-take, length-drop, length-map, length-replicate, take-append-drop, get_or-append}
 use lib.Seq.{length-take-le, take_at, drop_at, get_or-append-add, get_or-drop}
+use Rattle.std.specs.Prelude.{Result, Ok, Err}
 use Rattle.lists.specs.Lists.{at, All, Has}
 use Rattle.lists.specs.Ranges.{OneTo}
 use Rattle.lists.specs.Overwriting.{overwrite}
@@ -19,19 +20,18 @@ use Rattle.lists.proofs.Overwriting.{over-length}
 use Rattle.diagrams.specs.Check.{Accepts}
 use Rattle.words.specs.Word.{Pair, Spells, spell}
 use Rattle.words.proofs.Shape.{spells-word, word_length}
-use Rattle.words_reading.specs.declared.Reading.{Reading}
-use Rattle.words_reading.specs.declared.Reading.TheVariants as reading
+use Rattle.refusals.specs.declared.Refusal.{Refusal}
+use Rattle.refusals.specs.declared.Refusal.TheVariants as refusal
+use Rattle.refusals.specs.Numbers.{refusal_number}
+use Rattle.refusals.specs.Numbers as numbers
+use Rattle.refusals.proofs.Numbers.{number-one}
 use Rattle.words_reading.specs.Read.{Read, refused, built, read, with_room, reading_answer, ReadPromise}
 use Rattle.labelling.specs.Labelling.{word_of}
 use Rattle.listing.specs.Listing.{count}
 use Rattle.listing.specs.Position.{word_at, position}
-use Rattle.listing_ranking.specs.declared.Place.{Place}
-use Rattle.listing_ranking.specs.declared.Place.TheVariants as place
-use Rattle.listing_ranking.specs.Answers.{located_number, located_position}
+use Rattle.listing_ranking.specs.Answers.{located_position}
 use Rattle.listing_ranking.specs.Promises.{PositionPromise}
 use Rattle.sheet.specs.declared.CellAnswer.{CellAnswer}
-use Rattle.sheet.specs.declared.SheetAnswer.{SheetAnswer}
-use Rattle.sheet.specs.declared.SheetAnswer.TheVariants as sheet
 use Rattle.sheet.specs.Cells.{in_cells, cells, word_in, tail_of, blank, refused_with, found_at, located, cell, answers, refusals, positions}
 use Rattle.sheet.specs.Promises.{SheetPromise}
 use Rattle.sheet.proofs.Cells.{cells_are, either_way, cell-long, cell-marked, cell-read}
@@ -84,34 +84,37 @@ all-blank (y ∷ l) a = rw (eqb-eq y 0 a.0) (all-blank l a.1)
 -- ---- a cell whose word is read
 
 -- position of a diagram that check accepts
-position-answers : (F : Pair) → Accepts F.black F.white 1 → (q : Place) → PositionPromise F.black F.white 1 q
-    → ((located (built F)).refusal ≡ located_number q) × ((located (built F)).position ≡ located_position q 0)
-position-answers F A (place.Number p) P = let s = P.1 in rw (le-true (length F.black) 50 (omega arith)) (refl, sym P.2)
-position-answers F A (place.Refused k) (inl R) = absurd (not-both F.black F.white 1 k A R)
-position-answers F A (place.Refused k) (inr P) = go (lt? 50 (length F.black))
+position-answers : (F : Pair) → Accepts F.black F.white 1 → (q : Result ℕ Refusal) → PositionPromise F.black F.white 1 q
+    → ((located (built F)).refusal ≡ refusal_number q) × ((located (built F)).position ≡ located_position q 0)
+position-answers F A (Ok p) P = let s = P.1 in rw (le-true (length F.black) 50 (omega arith)) (refl, sym P.2)
+position-answers F A (Err e) (inl R) = absurd (not-both F.black F.white 1 (numbers.number e) A R)
+position-answers F A (Err e) (inr P) = go (lt? 50 (length F.black))
   where
-    go : (50 < length F.black) ⊎ (length F.black ≤ 50) → ((located (built F)).refusal ≡ k) × ((located (built F)).position ≡ 0)
+    go : (50 < length F.black) ⊎ (length F.black ≤ 50) → ((located (built F)).refusal ≡ numbers.number e) × ((located (built F)).position ≡ 0)
     go (inl h) = rw (le-false (length F.black) 50 h) (sym P.0, refl)
     go (inr h) = let s = A.size in absurd (P.2 (omega arith))
 
 -- read word refused it, and not as short
-refused-read : (q : Read) (a b k : ℕ) (x0 x1 y0 y1 : List ℕ) → ReadPromise (with_room q a b) (reading.Refused k) x0 x1 y0 y1
-    → reading.Refused k ≢ reading.Refused 9 → located q ≡ refused_with k
-refused-read (refused j) a b k x0 x1 y0 y1 G n = let e = G.0 in let z : j ≡ k = cc in ap refused_with z
-refused-read (built D) a b k x0 x1 y0 y1 G n = absurd (first (leb (length D.black) a) G)
+not-short : (e : Refusal) → ◌≢◌ {A = Result ℕ Refusal} (Err e) (Err refusal.ListShort) → numbers.number e ≢ 9
+not-short e n p = n (ap Err (number-one e refusal.ListShort p))
+
+refused-read : (q : Read) (a b : ℕ) (e : Refusal) (x0 x1 y0 y1 : List ℕ) → ReadPromise (with_room q a b) (Err e) x0 x1 y0 y1
+    → numbers.number e ≢ 9 → located q ≡ refused_with (numbers.number e)
+refused-read (refused j) a b e x0 x1 y0 y1 G n = ap refused_with (sym G.0)
+refused-read (built D) a b e x0 x1 y0 y1 G n = absurd (first (leb (length D.black) a) G)
   where
-    second : (c : Bool) → ReadPromise (cond c (built D) (refused 9)) (reading.Refused k) x0 x1 y0 y1 → ⊥
-    second true H = let e = H.0 in let z : ◌≡◌ {A = ℕ} 0 1 = cc in omega arith
+    second : (c : Bool) → ReadPromise (cond c (built D) (refused 9)) (Err e) x0 x1 y0 y1 → ⊥
+    second true H = let q = H.0 in let z : ◌≡◌ {A = ℕ} 0 1 = cc in omega arith
     second false H = n H.0
 
-    first : (c : Bool) → ReadPromise (cond c (cond (leb (length D.black) b) (built D) (refused 9)) (refused 9)) (reading.Refused k) x0 x1 y0 y1 → ⊥
+    first : (c : Bool) → ReadPromise (cond c (cond (leb (length D.black) b) (built D) (refused 9)) (refused 9)) (Err e) x0 x1 y0 y1 → ⊥
     first true H = second (leb (length D.black) b) H
     first false H = n H.0
 
-calls-answer : (w : List ℕ) (O : Outputs) (r : Reading) → Reads w O r → r ≢ reading.Refused 9 → CallsAnswer O r (located (read w))
+calls-answer : (w : List ℕ) (O : Outputs) (r : Result ℕ Refusal) → Reads w O r → r ≢ Err refusal.ListShort → CallsAnswer O r (located (read w))
 unfolding reading_answer
-calls-answer w O (reading.Refused k) G n = refused-read (read w) (length O.s0) (length O.s1) k O.s0 O.s1 O.s0_after O.s1_after G n
-calls-answer w O (reading.Size m) G n = λ q P. rw e (position-answers (front m O) H.accepted q P)
+calls-answer w O (Err e) G n = refused-read (read w) (length O.s0) (length O.s1) e O.s0 O.s1 O.s0_after O.s1_after G (not-short e n)
+calls-answer w O (Ok m) G n = λ q P. rw e (position-answers (front m O) H.accepted q P)
   where
     H : ReadHolds w O m
     H = demand_2.reads w O m G
@@ -120,7 +123,7 @@ calls-answer w O (reading.Size m) G n = λ q P. rw e (position-answers (front m 
     e = let s = H.accepted.size in (demand_2.reads_exactly w (front m O)).1 (H.spelled, omega arith)
 
 -- lists of 100 have room
-room-enough : (w : List ℕ) → length w ≤ 51 → (O : Outputs) (r : Reading) → 100 ≤ length O.s0 → 100 ≤ length O.s1 → Reads w O r → r ≢ reading.Refused 9
+room-enough : (w : List ℕ) → length w ≤ 51 → (O : Outputs) (r : Result ℕ Refusal) → 100 ≤ length O.s0 → 100 ≤ length O.s1 → Reads w O r → r ≢ Err refusal.ListShort
 unfolding reading_answer
 room-enough w l O r h0 h1 G n = go (read w) refl G
   where
@@ -128,7 +131,7 @@ room-enough w l O r h0 h1 G n = go (read w) refl G
     sized D H = let e = H.0 in let z : ◌≡◌ {A = ℕ} 0 1 = cc in omega arith
 
     go : (q : Read) → read w ≡ q → ReadPromise (with_room q (length O.s0) (length O.s1)) r O.s0 O.s1 O.s0_after O.s1_after → ⊥
-    go (refused k) e H = let f = H.0 in let z : k ≡ 9 = cc in let b = short-above k (read-short-refusals w k e l) in omega arith
+    go (refused k) e H = let z : 9 ≡ k = rw n at H.0 in let b = short-above k (read-short-refusals w k e l) in omega arith
     go (built D) e H =
         let s = read-short-size w D e l in
         sized D (rw (le-true (length D.black) (length O.s0) (omega arith), le-true (length D.black) (length O.s1) (omega arith)) at H)
@@ -284,12 +287,12 @@ lengths C A = (
   field-keeps C.numbers C.positions C.positions_after (λ (x : CellAnswer). x.position) A.3 (λ h. A.1 (inr h)),
 )
 
-empty : (a b c d : List ℕ) (r : SheetAnswer) → SheetPromise [] a b c d r → (r ≡ sheet.Answered) × (c ≡ a) × (d ≡ b)
+empty : (a b c d : List ℕ) (r : Result (Unit {0}) Refusal) → SheetPromise [] a b c d r → (r ≡ Ok tt) × (c ≡ a) × (d ≡ b)
 unfolding cells
-empty a b c d sheet.Answered P = (refl, P.2, P.3)
-empty a b c d (sheet.Refused k) (inl R, e, f) = absurd (R.1 (0, refl))
-empty a b c d (sheet.Refused k) (inr (n, D, inl h), e, f) = absurd (not-suc-le-zero h)
-empty a b c d (sheet.Refused k) (inr (n, D, inr h), e, f) = absurd (not-suc-le-zero h)
+empty a b c d (Ok u) P = (refl, P.2, P.3)
+empty a b c d (Err r) (inl R, e, f) = absurd (R.1 (0, refl))
+empty a b c d (Err r) (inr (n, D, inl h), e, f) = absurd (not-suc-le-zero h)
+empty a b c d (Err r) (inr (n, D, inr h), e, f) = absurd (not-suc-le-zero h)
 
 pub sheets-hold : SheetsHold
 sheets-hold = record {

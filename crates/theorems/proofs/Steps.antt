@@ -6,13 +6,13 @@ use Prim.Native.Nat.{ℕ, zero, suc, ◌+◌, ◌≤◌}
 use native.Mathlib.Nat.{add-zero}
 use native.Mathlib.Omega.{arith}
 use lib.ListN.{length, replicate, length-replicate}
+use Rattle.std.specs.Prelude.{Some, None, Ok}
 use Rattle.lists.specs.Ranges.{OneTo}
 use Rattle.words.specs.Outputs.{Short, overwrite}
 use Rattle.listing.specs.Listing.{count}
 use Rattle.listing.specs.Position.{word_at}
 use Rattle.listing.specs.Diagrams.{diagram_at}
 use Rattle.run_answers.specs.declared.Run.{Run}
-use Rattle.run_answers.specs.declared.Stepping.TheVariants.{Length, End}
 use Rattle.run_steps.specs.Promises.{run_after, finished, RunAt, RunFinished}
 use Rattle.theorems.specs.SecondList.{Step, Happened, History, written}
 
@@ -30,7 +30,7 @@ step_at n p = record {
   s0_after = overwrite (diagram_at n (suc p)).black (replicate n 0);
   s1_after = overwrite (diagram_at n (suc p)).white (replicate n 0);
   word_after = overwrite (word_at n (suc p)) (replicate (suc n) 0);
-  answer = Length (length (word_at n (suc p)));
+  answer = Ok (Some (length (word_at n (suc p))));
 }
 
 -- the step that answers "end"
@@ -42,7 +42,7 @@ end_step n = record {
   s0_after = replicate n 0;
   s1_after = replicate n 0;
   word_after = replicate (suc n) 0;
-  answer = End;
+  answer = Ok None;
 }
 
 -- k steps from position p on, and then `more`

@@ -4,6 +4,8 @@ use mathlib.Core.Logic.{inl, inr}
 use mathlib.Core.List.{List, [], ◌∷◌}
 use Prim.Native.Nat.{ℕ}
 use native.Mathlib.Omega.{arith}
+use Rattle.refusals.specs.Named.{named}
+use Rattle.std.specs.Prelude.{Ok}
 use Rattle.lists.specs.Lists.{at}
 use Rattle.lists.specs.Ranges.{OneTo}
 use Rattle.diagrams.specs.Check.{Accepts, Refuses, no-path}
@@ -20,7 +22,6 @@ use Rattle.invariants_cycles.specs.Cycles.{t, fixed_points, cycles, period, leas
 use Rattle.listing.specs.Listing.{completions, listing, count}
 use Rattle.listing.specs.Position.{word_at, position}
 use Rattle.listing.specs.Diagrams.{diagram_of, diagram_at}
-use Rattle.listing_ranking.specs.declared.Total.TheVariants.{Number}
 use Rattle.listing_ranking.specs.Promises.{CountPromise}
 use Rattle.census_definition.proofs.Example.{sizes-1-to-9}
 use Rattle.upto.specs.Upto.{upto, total}
@@ -98,11 +99,11 @@ table = record {
 -- ---- the edges
 
 -- the count of size 50 is not computed
-taken-50 : CountPromise 50 (Number (count 50))
+taken-50 : CountPromise 50 (Ok (count 50))
 taken-50 = (omega arith, refl)
 
 pub limits : Limits
-unfolding listing completions count word_at diagram_at diagram_of spell spells first last finished holder lapsed in_range next_in finished_free ticket_once ticket_issued expiry_in share_valid entry_unused entries_valid counters_in valid opened entered tick_in held claim_number claim_book ticket_number due commit_number commit_answer
+unfolding listing completions count word_at diagram_at diagram_of spell spells first last finished holder lapsed in_range next_in finished_free ticket_once ticket_issued expiry_in share_valid entry_unused entries_valid counters_in valid opened entered tick_in held claim_number claim_book ticket_number due commit_number commit_answer named
 limits = record {
   size_50 = taken-50;
   size_51 = ((refl, λ e. omega arith), (refl, λ e. omega arith));

@@ -9,6 +9,7 @@ use native.Mathlib.Omega.{arith}
 use lib.Dec.{eqb}
 use lib.ListN.{length, take, drop, get_or, take-append-drop}
 use lib.Seq.{take_at, take_all, drop-cons}
+use Rattle.std.specs.Prelude.{Option, Some, None, Result, Ok, Err}
 use Rattle.lists.specs.Ranges.{OneTo, stretch}
 use Rattle.diagrams.specs.Check.{Accepts}
 use Rattle.words.specs.Outputs.{Written, Untouched}
@@ -19,8 +20,8 @@ use Rattle.upto.specs.Visits.{visits}
 use Rattle.upto.proofs.Upto.{upto-sorted, upto-of-size, at-upto, upto-once}
 use Rattle.upto_laws.proofs.Laws.{some_word, visits-most}
 use Rattle.upto_answers.specs.declared.UptoRun.{UptoRun}
-use Rattle.upto_answers.specs.declared.UptoStepping.{UptoStepping}
-use Rattle.upto_answers.specs.declared.UptoStepping.TheVariants.{Given, End, Refused}
+use Rattle.refusals.specs.declared.Refusal.{Refusal}
+use Rattle.upto_answers.specs.declared.UptoGiven.{UptoGiven}
 use Rattle.upto_answers.specs.Promises.{fresh_upto, finished_upto, UptoAt, UptoFinished, UptoStepPromise}
 use Rattle.upto_answers.proofs.Runs.{upto-not-over, upto-stands-once, upto-stands-not-over}
 use Rattle.theorems.specs.Listing.{ExactlyOne}
@@ -35,61 +36,61 @@ Standing n p run = UptoAt n p run ⊎ ((p ≡ total n) × UptoFinished n run)
 -- ---- one step
 
 module _ (n p : ℕ) (N : OneTo 50 n) (end next : UptoRun) (s : UptoStep) where
-  abbrev Result : UptoStepping → Type 0
-  Result a = UptoDoes n p end next s a × Standing n (upto_writes a + p) next
+  abbrev Does : Result (Option UptoGiven) Refusal → Type 0
+  Does a = UptoDoes n p end next s a × Standing n (upto_writes a + p) next
 
   -- after "end" the run is finished, and all had been given
-  ended : p ≡ total n → next ≡ finished_upto n → Untouched s.s0 s.s1 s.word s.s0_after s.s1_after s.word_after → Result End
+  ended : p ≡ total n → next ≡ finished_upto n → Untouched s.s0 s.s1 s.word s.s0_after s.s1_after s.word_after → Does (Ok None)
   ended e x u = let z : 0 + p ≡ p = omega arith in ((e, x, u), inr (z ∙ e, record { bounded = N; is = x }))
 
-  does : (a : UptoStepping) → Standing n p end → UptoStepPromise end next s.s0 s.s1 s.word s.s0_after s.s1_after s.word_after a → Result a
-  does (Given size m v) (inl S) (n', p', G) = go (upto-stands-once S G.stood)
+  does : (a : Result (Option UptoGiven) Refusal) → Standing n p end → UptoStepPromise end next s.s0 s.s1 s.word s.s0_after s.s1_after s.word_after a → Does a
+  does (Ok (Some g)) (inl S) (n', p', G) = go (upto-stands-once S G.stood)
     where
-      go : (n ≡ n') × (p ≡ p') → Result (Given size m v)
+      go : (n ≡ n') × (p ≡ p') → Does (Ok (Some g))
       go q =
           let z : 1 + p ≡ suc p = omega arith in
           let l : p < total n = rw (q.0, q.1) G.more in (
             (l, rw (q.0, q.1) G.size_is, rw (q.0, q.1) G.length_is, rw (q.0, q.1) G.visits_are, rw (q.0, q.1) G.written),
             inl (rw z record { bounded = N; within = l; is = rw (q.0, q.1) G.leaves }),
           )
-  does (Given size m v) (inr o) (n', p', G) = absurd (upto-stands-not-over G.stood o.1)
-  does End (inl S) ((n', x, inl O), u) = absurd (upto-stands-not-over S O)
-  does End (inl S) ((n', x, inr T), u) = go (upto-stands-once S T)
+  does (Ok (Some g)) (inr o) (n', p', G) = absurd (upto-stands-not-over G.stood o.1)
+  does (Ok None) (inl S) ((n', x, inl O), u) = absurd (upto-stands-not-over S O)
+  does (Ok None) (inl S) ((n', x, inr T), u) = go (upto-stands-once S T)
     where
-      go : (n ≡ n') × (p ≡ total n') → Result End
+      go : (n ≡ n') × (p ≡ total n') → Does (Ok None)
       go q = ended (q.1 ∙ ap total (sym q.0)) (rw q.0 x) u
-  does End (inr o) ((n', x, inl O), u) = ended o.0 (rw (ap (λ (r : UptoRun). r.bound) (sym o.1.is ∙ O.is)) x) u
-  does End (inr o) ((n', x, inr T), u) = absurd (upto-stands-not-over T o.1)
-  does (Refused k) S (r, x, u) = let z : 0 + p ≡ p = omega arith in ((x, u), rw (z, x) S)
+  does (Ok None) (inr o) ((n', x, inl O), u) = ended o.0 (rw (ap (λ (r : UptoRun). r.bound) (sym o.1.is ∙ O.is)) x) u
+  does (Ok None) (inr o) ((n', x, inr T), u) = absurd (upto-stands-not-over T o.1)
+  does (Err e) S (r, x, u) = let z : 0 + p ≡ p = omega arith in ((x, u), rw (z, x) S)
 
 -- ---- the rows that the steps handed back
 
-row_is : (n p size m v : ℕ) (s : UptoStep) → p < total n → size ≡ size_of (word_upto n (suc p)) → m ≡ length (word_upto n (suc p)) → v ≡ visits n (suc p)
+row_is : (n p : ℕ) (g : UptoGiven) (s : UptoStep) → p < total n → g.size ≡ size_of (word_upto n (suc p)) → g.length ≡ length (word_upto n (suc p)) → g.visits ≡ visits n (suc p)
     → Written (diagram_of (word_upto n (suc p))) (word_upto n (suc p)) s.s0 s.s1 s.word s.s0_after s.s1_after s.word_after
-    → upto_handed s (Given size m v) ≡ upto_row n (suc p) ∷ []
-row_is n p size m v s l d e f w =
+    → upto_handed s (Ok (Some g)) ≡ upto_row n (suc p) ∷ []
+row_is n p g s l d e f w =
     let u = word_upto n (suc p) in
     let a = at-upto n (suc p) (omega arith, l) in
     rw (
-      front-is size (diagram_of u).black s.s0 s.s0_after (sym d) w.s0_written,
-      front-is size (diagram_of u).white s.s1 s.s1_after (white-length a.0 u a.2 ∙ sym (black-length a.0 u a.2) ∙ sym d) w.s1_written,
-      front-is m u s.word s.word_after (sym e) w.word_written,
+      front-is g.size (diagram_of u).black s.s0 s.s0_after (sym d) w.s0_written,
+      front-is g.size (diagram_of u).white s.s1 s.s1_after (white-length a.0 u a.2 ∙ sym (black-length a.0 u a.2) ∙ sym d) w.s1_written,
+      front-is g.length u s.word s.word_after (sym e) w.word_written,
       d,
       f,
     )
 
 -- the row that a step handed back, before k rows more
-step-rows : (n p k : ℕ) (end next : UptoRun) (s : UptoStep) (a : UptoStepping) → UptoDoes n p end next s a
+step-rows : (n p k : ℕ) (end next : UptoRun) (s : UptoStep) (a : Result (Option UptoGiven) Refusal) → UptoDoes n p end next s a
     → upto_handed s a ++ map (upto_row n) (stretch (suc (upto_writes a + p)) k) ≡ map (upto_row n) (stretch (suc p) (upto_writes a + k))
-step-rows n p k end next s (Given size m v) d =
+step-rows n p k end next s (Ok (Some g)) d =
     let z : 1 + p ≡ suc p = omega arith in
     let y : 1 + k ≡ suc k = omega arith in
-    rw (z, y) (ap (λ (l : List UptoRow). l ++ map (upto_row n) (stretch (suc (suc p)) k)) (row_is n p size m v s d.0 d.1 d.2 d.3 d.4))
-step-rows n p k end next s End d =
+    rw (z, y) (ap (λ (l : List UptoRow). l ++ map (upto_row n) (stretch (suc (suc p)) k)) (row_is n p g s d.0 d.1 d.2 d.3 d.4))
+step-rows n p k end next s (Ok None) d =
     let z : 0 + p ≡ p = omega arith in
     let y : 0 + k ≡ k = omega arith in
     rw (z, y)
-step-rows n p k end next s (Refused r) d =
+step-rows n p k end next s (Err r) d =
     let z : 0 + p ≡ p = omega arith in
     let y : 0 + k ≡ k = omega arith in
     rw (z, y)
@@ -109,10 +110,10 @@ standing-all n N (s ∷ steps) run end p S h =
     let z : upto_written steps + (upto_writes s.answer + p) ≡ (upto_writes s.answer + upto_written steps) + p = omega arith in
     rw z at (standing-all n N steps h.0 end (upto_writes s.answer + p) (does n p N run h.0 s s.answer S h.1).1 h.2)
 
-ends : (n p : ℕ) (end next : UptoRun) (s : UptoStep) (a : UptoStepping) → UptoDoes n p end next s a → UptoAccepted a → (a ≡ End) ↔ (p ≡ total n)
-ends n p end next s (Given size m v) d c = (λ e. (let z : ◌≡◌ {A = ℕ} 0 1 = cc in absurd (omega arith)), λ e. (let l = d.0 in absurd (omega arith)))
-ends n p end next s End d c = (λ e. d.0, λ e. refl)
-ends n p end next s (Refused k) d c = absurd c
+ends : (n p : ℕ) (end next : UptoRun) (s : UptoStep) (a : Result (Option UptoGiven) Refusal) → UptoDoes n p end next s a → UptoAccepted a → (a ≡ Ok None) ↔ (p ≡ total n)
+ends n p end next s (Ok (Some g)) d c = (λ e. (let z : ◌≡◌ {A = ℕ} 0 1 = cc in absurd (omega arith)), λ e. (let l = d.0 in absurd (omega arith)))
+ends n p end next s (Ok None) d c = (λ e. d.0, λ e. refl)
+ends n p end next s (Err e) d c = absurd c
 
 -- ---- the words of the rows
 

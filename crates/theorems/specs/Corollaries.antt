@@ -4,24 +4,21 @@
 --   Powerless b tick t    a session with the ticket t can neither commit, a position or a range, nor release nor take at that tick
 --   SameShare b b' j      share j's entries are as they were
 --   Corollaries n k b C   the statements;  CorollariesHold, that they hold after every list of calls
-use Rattle.std.specs.Prelude.{◌≡◌, ◌≢◌, ◌⊎◌, true, List, ℕ, ◌≤◌, ◌<◌, length}
+use Rattle.std.specs.Prelude.{◌≡◌, ◌≢◌, ◌⊎◌, true, List, ℕ, ◌≤◌, ◌<◌, length, Ok}
 use Rattle.lists.specs.Lists.{Has}
 use Rattle.lists.specs.Ranges.{OneTo}
 use Rattle.book.specs.declared.types.Book.{Book}
-use Rattle.book.specs.declared.types.Opening.TheVariants.{Opened}
-use Rattle.book.specs.declared.types.Taking.TheVariants.{Given}
-use Rattle.book.specs.declared.types.Committing.TheVariants.{Committed}
-use Rattle.book.specs.declared.types.Releasing.TheVariants.{Released}
+use Rattle.book.specs.declared.types.Taken.{Taken}
 use Rattle.book.specs.Shares.{next, ticket, expiry, committed, holder, lapsed, first}
 use Rattle.book.specs.Calls.{open_answer, open_book, take_answer, commit_answer, commit_range_answer, release_answer, release_book}
 use Rattle.book.specs.Holding.{ShareHolds}
 use Rattle.theorems.specs.FirstList.{Call, book_after_all, commits}
 
 pub record Powerless (b : Book) (tick t : ℕ) : Type 0 where
-  pub no_commit : (p : ℕ) → commit_answer b tick t p ≢ Committed
-  pub no_range : (p q : ℕ) → commit_range_answer b tick t p q ≢ Committed
-  pub no_release : release_answer b tick t ≢ Released
-  pub no_take : (l0 l1 lw j p m : ℕ) → take_answer b tick t l0 l1 lw ≢ Given j p m
+  pub no_commit : (p : ℕ) → commit_answer b tick t p ≢ Ok tt
+  pub no_range : (p q : ℕ) → commit_range_answer b tick t p q ≢ Ok tt
+  pub no_release : release_answer b tick t ≢ Ok tt
+  pub no_take : (l0 l1 lw : ℕ) (g : Taken) → take_answer b tick t l0 l1 lw ≢ Ok g
 
 pub record SameShare (b b' : Book) (j : ℕ) : Type 0 where
   pub same_next : next b' j ≡ next b j
@@ -43,5 +40,5 @@ pub record Corollaries (n k : ℕ) (b : Book) (C : List ℕ) : Type 0 where
 
 abbrev pub CorollariesHold : Type 0
 CorollariesHold =
-    (lent : Book) (n k : ℕ) → open_answer n k ≡ Opened
+    (lent : Book) (n k : ℕ) → open_answer n k ≡ Ok tt
     → (calls : List Call) → Corollaries n k (book_after_all (open_book lent n k) calls) (commits (open_book lent n k) calls)

@@ -17,27 +17,20 @@
 --   RelabelPromise, CompareRootedPromise, SymmetriesPromise, ..   crate labelling_operations, Promises
 --   CountPromise, DiagramAtPromise, PositionPromise   crate listing_ranking, Promises
 --   ListingHolds; InvariantsHold, Counts             Listing; Invariants
-use Rattle.std.specs.Prelude.{◌≡◌, ◌↔◌, List, ℕ, ◌≤◌, length, take, drop}
+use Rattle.std.specs.Prelude.{◌≡◌, ◌↔◌, List, ℕ, ◌≤◌, length, take, drop, Bool, true, Result, Ok, Err}
 use Rattle.std.proofs.Math.Option.{some}
 use Rattle.lists.specs.Lists.{at}
 use Rattle.lists.specs.Ranges.{OneTo}
 use Rattle.diagrams.specs.Isomorphism.{Isomorphism, Isomorphic, RootedIsomorphic}
 use Rattle.diagrams.specs.Check.{Accepts}
 use Rattle.words.specs.Word.{Pair, spell}
-use Rattle.words_reading.specs.declared.Reading.{Reading}
-use Rattle.words_reading.specs.declared.Reading.TheVariants.{Size}
+use Rattle.refusals.specs.declared.Refusal.{Refusal}
 use Rattle.words_reading.specs.Read.{read, built, reading_answer, ReadPromise}
 use Rattle.labelling.specs.Labelling.{label, label_of, labels, word_of, characteristic}
 use Rattle.labelling.specs.Rootings.{least_word, Kept}
-use Rattle.labelling_answers.specs.declared.Relabelling.TheVariants as relabelling
-use Rattle.labelling_answers.specs.declared.Comparison.{Comparison}
-use Rattle.labelling_answers.specs.declared.Comparison.TheVariants as comparison
-use Rattle.labelling_answers.specs.declared.Symmetry.TheVariants as symmetry
+use Rattle.labelling_answers.specs.declared.SideRefusal.{SideRefusal}
 use Rattle.labelling_operations.specs.Promises.{RelabelPromise, CompareRootedPromise, CompareUnrootedPromise, SymmetriesPromise}
 use Rattle.listing.specs.Listing.{listing}
-use Rattle.listing_ranking.specs.declared.Total.TheVariants as total
-use Rattle.listing_ranking.specs.declared.Entry.TheVariants as entry
-use Rattle.listing_ranking.specs.declared.Place.TheVariants as place
 use Rattle.listing_ranking.specs.Promises.{CountPromise, DiagramAtPromise, PositionPromise}
 use Rattle.theorems.specs.Listing.{ListingHolds}
 use Rattle.theorems.specs.Invariants.{Counts, InvariantsHold}
@@ -111,14 +104,14 @@ items m O = take m O.word_after
 
 -- relabel of s0, s1 and root was accepted and answered the word's length m
 abbrev pub Relabels : List ℕ → List ℕ → ℕ → Outputs → ℕ → Type 0
-Relabels s0 s1 root O m = RelabelPromise s0 s1 root O.s0 O.s1 O.word O.s0_after O.s1_after O.word_after (relabelling.Length m)
+Relabels s0 s1 root O m = RelabelPromise s0 s1 root O.s0 O.s1 O.word O.s0_after O.s1_after O.word_after (Ok m)
 
 -- diagram at position p of size n was accepted and answered the word's length m
 abbrev pub WritesAt : ℕ → ℕ → Outputs → ℕ → Type 0
-WritesAt n p O m = DiagramAtPromise n p O.s0 O.s1 O.word O.s0_after O.s1_after O.word_after (entry.Length m)
+WritesAt n p O m = DiagramAtPromise n p O.s0 O.s1 O.word O.s0_after O.s1_after O.word_after (Ok m)
 
 -- read word of w answered r; it is lent the first two lists only
-abbrev pub Reads : List ℕ → Outputs → Reading → Type 0
+abbrev pub Reads : List ℕ → Outputs → Result ℕ Refusal → Type 0
 Reads w O r = ReadPromise (reading_answer w (length O.s0) (length O.s1)) r O.s0 O.s1 O.s0_after O.s1_after
 
 pub record HandsBack (n m : ℕ) (O : Outputs) : Type 0 where
@@ -133,8 +126,8 @@ pub record HandsBack (n m : ℕ) (O : Outputs) : Type 0 where
 
 -- Read word of a word that spells the diagram D, of at most 1,024 edges, into lists that are long enough: it gives D.
 abbrev pub ReadsSpelled : List ℕ → Pair → Type 0
-ReadsSpelled w D = (O : Outputs) (r : Reading) → length D.black ≤ length O.s0 → length D.black ≤ length O.s1 → Reads w O r
-    → (r ≡ Size (length D.black)) × (front (length D.black) O ≡ D)
+ReadsSpelled w D = (O : Outputs) (r : Result ℕ Refusal) → length D.black ≤ length O.s0 → length D.black ≤ length O.s1 → Reads w O r
+    → (r ≡ Ok (length D.black)) × (front (length D.black) O ≡ D)
 
 -- Relabel.
 pub record RelabelHolds (s0 s1 : List ℕ) (root : ℕ) (O : Outputs) (m : ℕ) : Type 0 where
@@ -159,23 +152,23 @@ pub record ReadHolds (w : List ℕ) (O : Outputs) (n : ℕ) : Type 0 where
 
 -- Compare, of two accepted diagrams: "same" exactly if the words are equal, without roots the least words.
 pub record CompareHolds (s0 s1 : List ℕ) (r : ℕ) (t0 t1 : List ℕ) (q : ℕ) : Type 0 where
-  pub with_roots : (a : Comparison) → CompareRootedPromise s0 s1 r t0 t1 q a → (a ≡ comparison.Same) ↔ (word_of s0 s1 r ≡ word_of t0 t1 q)
-  pub without_roots : (a : Comparison) → CompareUnrootedPromise s0 s1 r t0 t1 q a → (a ≡ comparison.Same) ↔ (least_word s0 s1 ≡ least_word t0 t1)
+  pub with_roots : (a : Result Bool SideRefusal) → CompareRootedPromise s0 s1 r t0 t1 q a → (a ≡ Ok true) ↔ (word_of s0 s1 r ≡ word_of t0 t1 q)
+  pub without_roots : (a : Result Bool SideRefusal) → CompareUnrootedPromise s0 s1 r t0 t1 q a → (a ≡ Ok true) ↔ (least_word s0 s1 ≡ least_word t0 t1)
 
 -- Symmetries: the number of edges to which an isomorphism of the diagram with itself carries the root.
 abbrev pub SymmetriesHold : Type 0
-SymmetriesHold = (s0 s1 : List ℕ) (root m : ℕ) → SymmetriesPromise s0 s1 root (symmetry.Count m) → Counts (length s0) (λ x. RootedIsomorphic s0 s1 root s0 s1 x) m
+SymmetriesHold = (s0 s1 : List ℕ) (root m : ℕ) → SymmetriesPromise s0 s1 root (Ok m) → Counts (length s0) (λ x. RootedIsomorphic s0 s1 root s0 s1 x) m
 
 -- Count, diagram at a position and position of a diagram.
 pub record PositionsHold : Type 0 where
   -- the count is the number of words of the listing, which holds each word of the size once (Listing)
-  pub counted : (n k : ℕ) → CountPromise n (total.Number k) → k ≡ length (listing n)
+  pub counted : (n k : ℕ) → CountPromise n (Ok k) → k ≡ length (listing n)
   -- what is handed back at a position is a diagram of the size in its characteristic labelling, with its word,
   pub hands_back : (n p : ℕ) (O : Outputs) (m : ℕ) → WritesAt n p O m → HandsBack n m O
   -- whose position is that position
-  pub position_of : (n p : ℕ) (O : Outputs) (m : ℕ) → WritesAt n p O m → (q : ℕ) → PositionPromise (front n O).black (front n O).white 1 (place.Number q) → q ≡ p
+  pub position_of : (n p : ℕ) (O : Outputs) (m : ℕ) → WritesAt n p O m → (q : ℕ) → PositionPromise (front n O).black (front n O).white 1 (Ok q) → q ≡ p
   -- and a root-keeping isomorphism joins a diagram to the one at its position
-  pub at_position : (s0 s1 : List ℕ) (root p : ℕ) → PositionPromise s0 s1 root (place.Number p) → (O : Outputs) (m : ℕ) → WritesAt (length s0) p O m
+  pub at_position : (s0 s1 : List ℕ) (root p : ℕ) → PositionPromise s0 s1 root (Ok p) → (O : Outputs) (m : ℕ) → WritesAt (length s0) p O m
       → RootedIsomorphic s0 s1 root (front (length s0) O).black (front (length s0) O).white 1
 
 -- ---- demand 2 whole
@@ -196,7 +189,7 @@ pub record Demand2 : Type 0 where
   pub reads_exactly : (w : List ℕ) (D : Pair) → ReadsExactly w D
   pub reads_back : (s0 s1 : List ℕ) (root : ℕ) → Accepts s0 s1 root → ReadsBack s0 s1 root
   pub labels_back : (w : List ℕ) (D : Pair) → spell w ≡ some D → LabelsBack w D
-  pub reads : (w : List ℕ) (O : Outputs) (n : ℕ) → Reads w O (Size n) → ReadHolds w O n
+  pub reads : (w : List ℕ) (O : Outputs) (n : ℕ) → Reads w O (Ok n) → ReadHolds w O n
   pub reads_spelled : (w : List ℕ) (D : Pair) → spell w ≡ some D → length D.black ≤ 1024 → ReadsSpelled w D
   -- counts, positions and invariants equal their definitions
   pub listing : ListingHolds

@@ -18,7 +18,7 @@
 -- and from elsewhere: open_book, commit_answer, .. (book, Calls); TakePromise, the promise of take (book, Taken); ShareHolds n k j p, share j of k holds
 -- position p (book, Holding); diagram_at n p, word_at n p (listing); Written (words, Outputs); Accepts, RootedIsomorphic (diagrams);
 -- Characteristic (Demand2); Has, Distinct (lists).
-use Rattle.std.specs.Prelude.{◌≡◌, ◌≢◌, ◌↔◌, Bool, true, cond, List, [], ◌∷◌, ◌++◌, ℕ, suc, ◌≤◌, ◌<◌, eqb, length}
+use Rattle.std.specs.Prelude.{◌≡◌, ◌≢◌, ◌↔◌, Bool, true, cond, List, [], ◌∷◌, ◌++◌, ℕ, suc, ◌≤◌, ◌<◌, eqb, length, Result, Ok}
 use Rattle.lists.specs.Lists.{Has, Distinct}
 use Rattle.lists.specs.Ranges.{OneTo}
 use Rattle.diagrams.specs.Isomorphism.{RootedIsomorphic}
@@ -29,10 +29,9 @@ use Rattle.listing.specs.Listing.{count}
 use Rattle.listing.specs.Position.{word_at}
 use Rattle.listing.specs.Diagrams.{diagram_at}
 use Rattle.book.specs.declared.types.Book.{Book}
-use Rattle.book.specs.declared.types.Opening.TheVariants.{Opened}
-use Rattle.book.specs.declared.types.Taking.TheVariants.{Given}
-use Rattle.book.specs.declared.types.Committing.TheVariants.{Committed}
-use Rattle.book.specs.declared.types.Reporting.TheVariants.{Progress}
+use Rattle.refusals.specs.declared.Refusal.{Refusal}
+use Rattle.book.specs.declared.types.Taken.{Taken}
+use Rattle.book.specs.declared.types.Progress.{Progress}
 use Rattle.book.specs.Shares.{next, ticket, first}
 use Rattle.book.specs.Calls.{open_answer, open_book, claim_book, take_book, commit_number, commit_answer, commit_book, positions, commit_range_number, commit_range_answer, commit_range_book, release_book, report_answer}
 use Rattle.book.specs.Taken.{TakePromise}
@@ -123,14 +122,18 @@ pub record RangeRecords (n k : ℕ) (b : Book) (C : List ℕ) (t p q : ℕ) (b' 
   pub moved_on : next b' share ≡ suc q
   pub commits_each : (x : ℕ) → Has x (positions p q) ↔ ((p ≤ x) × (x ≤ q))
 
+-- a report of that many committed positions, which says complete or not
+abbrev pub reported : ℕ → Bool → Result Progress Refusal
+reported committed complete = Ok (record { committed = committed; complete = complete })
+
 -- The theorem, for a list of calls from a book of size n in k shares: b is the book that it leaves, C what it has committed.
 pub record FirstList (n k : ℕ) (b : Book) (C : List ℕ) : Type 0 where
   -- the report then gives the number of accepted commits of the list, those of its accepted ranges among them, and says complete or not
-  pub counts : (says : Bool) × (report_answer b ≡ Progress (length C) says)
+  pub counts : (says : Bool) × (report_answer b ≡ reported (length C) says)
   -- it says complete exactly when every share is finished
-  pub complete_exactly : (report_answer b ≡ Progress (length C) true) ↔ ((j : ℕ) → OneTo k j → ShareFinished n k C j)
+  pub complete_exactly : (report_answer b ≡ reported (length C) true) ↔ ((j : ℕ) → OneTo k j → ShareFinished n k C j)
   -- and that is so exactly when every rooted diagram of the size has been committed once, in its characteristic labelling
-  pub whole_exactly : (report_answer b ≡ Progress (length C) true) ↔ EachOnce n C
+  pub whole_exactly : (report_answer b ≡ reported (length C) true) ↔ EachOnce n C
   -- no position, and so no diagram, is ever committed twice, complete or not
   pub never_twice : Distinct C
   pub no_class_twice : (p q : ℕ) → Has p C → Has q C → RootedIsomorphic (diagram_at n p).black (diagram_at n p).white 1 (diagram_at n q).black (diagram_at n q).white 1 → p ≡ q
@@ -138,14 +141,14 @@ pub record FirstList (n k : ℕ) (b : Book) (C : List ℕ) : Type 0 where
   pub in_place : (p : ℕ) → Has p C → InPlace n p
   -- whatever an accepted take after these calls answers and leaves by its promise: it gives the position that is due at its ticket, and c0, c1
   -- and cw are that position's diagram and word written over the lists that were lent
-  pub takes : (tick t : ℕ) (s0 s1 word : List ℕ) (j p m : ℕ) (b' : Book) (c0 c1 cw : List ℕ) → TakePromise b tick t s0 s1 word (Given j p m) b' c0 c1 cw → TakeGives n k b C t s0 s1 word j p m c0 c1 cw
+  pub takes : (tick t : ℕ) (s0 s1 word : List ℕ) (g : Taken) (b' : Book) (c0 c1 cw : List ℕ) → TakePromise b tick t s0 s1 word (Ok g) b' c0 c1 cw → TakeGives n k b C t s0 s1 word g.share g.position g.length c0 c1 cw
   -- a commit after these calls that is accepted names the position that is due at its ticket, and moves the share on by one
-  pub records : (tick t p : ℕ) → commit_answer b tick t p ≡ Committed → CommitRecords n k b C t p (commit_book b tick t p)
+  pub records : (tick t p : ℕ) → commit_answer b tick t p ≡ Ok tt → CommitRecords n k b C t p (commit_book b tick t p)
   -- an accepted range begins at the position that is due at its ticket, lies in that share whole, and moves the share on past its last position
-  pub records_range : (tick t p q : ℕ) → commit_range_answer b tick t p q ≡ Committed → RangeRecords n k b C t p q (commit_range_book b tick t p q)
+  pub records_range : (tick t p q : ℕ) → commit_range_answer b tick t p q ≡ Ok tt → RangeRecords n k b C t p q (commit_range_book b tick t p q)
 
 -- The first list of demand 3: for every accepted open, whatever book was lent to it, and every list of calls from the book that it left.
 abbrev pub FirstListHolds : Type 0
 FirstListHolds =
-    (lent : Book) (n k : ℕ) → open_answer n k ≡ Opened
+    (lent : Book) (n k : ℕ) → open_answer n k ≡ Ok tt
     → (calls : List Call) → FirstList n k (book_after_all (open_book lent n k) calls) (commits (open_book lent n k) calls)

@@ -10,9 +10,9 @@
 --   Means n f g x       the numbers x are the invariants of the diagram with black map f and white map g
 -- and from elsewhere: least_common_multiple (crate invariants_multiples, Multiples); Permutation, iterate, SameCycle, least_of_cycle, period, cycles, cycle_lengths, cusp_map (crate
 -- invariants_cycles, Cycles); Invariants s0 s1 x, the numbers x are e2, e3, c, t and level as crate invariants_cycles defines them, InvariantsPromise, the promise of the
--- operation, and invariants_number, the number of its refusal (crate invariants, Promises and Answers);
+-- operation, (crate invariants, Promises); refusal_number, the number of an answer (crate refusals, Numbers);
 -- Isomorphic, Accepts (diagrams); ExactlyOne (Listing).
-use Rattle.std.specs.Prelude.{◌≡◌, ◌≢◌, ◌↔◌, true, List, ℕ, ◌+◌, ◌*◌, ◌^◌, ◌≤◌, ◌<◌, length}
+use Rattle.std.specs.Prelude.{◌≡◌, ◌≢◌, ◌↔◌, true, List, ℕ, ◌+◌, ◌*◌, ◌^◌, ◌≤◌, ◌<◌, length, Result, Ok}
 use Rattle.std.specs.Int.{◌∣◌}
 use Rattle.std.proofs.Math.IntN.{sub_ℕ}
 use Rattle.lists.specs.Lists.{at, Has, Distinct}
@@ -22,9 +22,8 @@ use Rattle.diagrams.specs.Isomorphism.{Isomorphic}
 use Rattle.invariants_multiples.specs.Multiples.{least_common_multiple}
 use Rattle.invariants_cycles.specs.Cycles.{Permutation, iterate, SameCycle, least_of_cycle, period, cycles, cycle_lengths, cusp_map}
 use Rattle.invariants.specs.declared.Numbers.{Numbers}
-use Rattle.invariants.specs.declared.Measured.{Measured}
-use Rattle.invariants.specs.declared.Measured.TheVariants.{Known}
-use Rattle.invariants.specs.Answers.{invariants_number}
+use Rattle.refusals.specs.declared.Refusal.{Refusal}
+use Rattle.refusals.specs.Numbers.{refusal_number}
 use Rattle.invariants.specs.Promises.{Invariants, InvariantsPromise}
 use Rattle.theorems.specs.Listing.{ExactlyOne}
 
@@ -83,12 +82,12 @@ pub record InvariantsHold : Type 0 where
   pub permutes : (s0 s1 : List ℕ) (root : ℕ) → Accepts s0 s1 root → Permutation (length s0) (cusp_map (at s0) (at s1))
   pub cycles_of : (n : ℕ) (φ : ℕ → ℕ) → Permutation n φ → CyclesHold n φ
   -- the numbers that the operation answers are the invariants of the diagram given
-  pub measured : (s0 s1 : List ℕ) (root : ℕ) (x : Numbers) → InvariantsPromise s0 s1 root (Known x) → Means (length s0) (at s0) (at s1) x
+  pub measured : (s0 s1 : List ℕ) (root : ℕ) (x : Numbers) → InvariantsPromise s0 s1 root (Ok x) → Means (length s0) (at s0) (at s1) x
   -- it answers 62 exactly where they are a diagram whose level is 2^64 or more, so never of a diagram of fewer than 64 edges
-  pub outgrown : (s0 s1 : List ℕ) (root : ℕ) (a : Measured) → InvariantsPromise s0 s1 root a
-      → (invariants_number a ≡ 62) ↔ (Accepts s0 s1 root × ((m : ℕ) × Level (length s0) (cusp_map (at s0) (at s1)) m × Over64Bits m))
-  pub small_known : (s0 s1 : List ℕ) (root : ℕ) (a : Measured) → InvariantsPromise s0 s1 root a → length s0 < 64 → invariants_number a ≢ 62
+  pub outgrown : (s0 s1 : List ℕ) (root : ℕ) (a : Result Numbers Refusal) → InvariantsPromise s0 s1 root a
+      → (refusal_number a ≡ 62) ↔ (Accepts s0 s1 root × ((m : ℕ) × Level (length s0) (cusp_map (at s0) (at s1)) m × Over64Bits m))
+  pub small_known : (s0 s1 : List ℕ) (root : ℕ) (a : Result Numbers Refusal) → InvariantsPromise s0 s1 root a → length s0 < 64 → refusal_number a ≢ 62
   -- isomorphic diagrams have the same invariants, and the operation answers the same for them, 62 too
   pub isomorphic_same : (s0 s1 : List ℕ) (r : ℕ) → Accepts s0 s1 r → (t0 t1 : List ℕ) → Isomorphic s0 s1 t0 t1 → (x : Numbers) → Invariants s0 s1 x → Invariants t0 t1 x
-  pub isomorphic_measured : (s0 s1 : List ℕ) (r : ℕ) → Accepts s0 s1 r → (a : Measured) → InvariantsPromise s0 s1 r a
-      → (t0 t1 : List ℕ) (q : ℕ) → Accepts t0 t1 q → (b : Measured) → InvariantsPromise t0 t1 q b → Isomorphic s0 s1 t0 t1 → a ≡ b
+  pub isomorphic_measured : (s0 s1 : List ℕ) (r : ℕ) → Accepts s0 s1 r → (a : Result Numbers Refusal) → InvariantsPromise s0 s1 r a
+      → (t0 t1 : List ℕ) (q : ℕ) → Accepts t0 t1 q → (b : Result Numbers Refusal) → InvariantsPromise t0 t1 q b → Isomorphic s0 s1 t0 t1 → a ≡ b

@@ -5,17 +5,16 @@
 --   AtPosition n s0 s1 p   the diagram at p is isomorphic, without roots, to the given one
 --   MarkedOnce n s0 s1     the class of the given diagram has exactly one position of which kept answers yes
 -- and from elsewhere: KeptPromise, the promise of kept (labelling_operations, Promises); count, diagram_at (listing); Accepts, Isomorphic (diagrams).
-use Rattle.std.specs.Prelude.{◌≡◌, ◌≢◌, List, ℕ, length}
+use Rattle.std.specs.Prelude.{◌≡◌, ◌≢◌, List, ℕ, length, Bool, true, false, Result, Ok, Err}
 use Rattle.lists.specs.Ranges.{OneTo}
 use Rattle.diagrams.specs.Check.{Accepts}
 use Rattle.diagrams.specs.Isomorphism.{Isomorphic}
 use Rattle.listing.specs.Listing.{count}
 use Rattle.listing.specs.Diagrams.{diagram_at}
-use Rattle.labelling_answers.specs.declared.KeepMark.{KeepMark}
-use Rattle.labelling_answers.specs.declared.KeepMark.TheVariants.{Yes, No}
+use Rattle.refusals.specs.declared.Refusal.{Refusal}
 use Rattle.labelling_operations.specs.Promises.{KeptPromise}
 
-abbrev pub KeptAnswers : ℕ → ℕ → KeepMark → Type 0
+abbrev pub KeptAnswers : ℕ → ℕ → Result Bool Refusal → Type 0
 KeptAnswers n p a = KeptPromise (diagram_at n p).black (diagram_at n p).white 1 a
 
 abbrev pub AtPosition : ℕ → List ℕ → List ℕ → ℕ → Type 0
@@ -25,11 +24,11 @@ pub record MarkedOnce (n : ℕ) (s0 s1 : List ℕ) : Type 0 where
   pub position : ℕ
   pub in_class : AtPosition n s0 s1 position
   -- of the diagram there kept answers yes, and nothing else
-  pub yes : KeptAnswers n position Yes
-  pub nothing_else : (a : KeepMark) → KeptAnswers n position a → a ≡ Yes
+  pub yes : KeptAnswers n position (Ok true)
+  pub nothing_else : (a : Result Bool Refusal) → KeptAnswers n position a → a ≡ Ok true
   -- of every other diagram of the class it answers no, and nothing else
-  pub only : (q : ℕ) → AtPosition n s0 s1 q → KeptAnswers n q Yes → q ≡ position
-  pub others_no : (q : ℕ) → AtPosition n s0 s1 q → q ≢ position → (a : KeepMark) → KeptAnswers n q a → a ≡ No
+  pub only : (q : ℕ) → AtPosition n s0 s1 q → KeptAnswers n q (Ok true) → q ≡ position
+  pub others_no : (q : ℕ) → AtPosition n s0 s1 q → q ≢ position → (a : Result Bool Refusal) → KeptAnswers n q a → a ≡ Ok false
 
 -- For sizes 1 to 50 and every diagram of the size, whatever its root.
 abbrev pub KeepMarkHolds : Type 0

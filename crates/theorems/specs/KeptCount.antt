@@ -6,13 +6,11 @@
 --   CountedClasses n c      there are c representatives, however they are chosen; one choice are the diagrams of which kept answers yes
 --   KeptCountHolds          so it is for the number c that kept count answers
 -- and from elsewhere: KeptAnswers, AtPosition (KeepMark); KeptCountPromise, the promise of kept count (run_kept_count, Promises); Has, Distinct (lists).
-use Rattle.std.specs.Prelude.{◌≡◌, List, ℕ, length}
+use Rattle.std.specs.Prelude.{◌≡◌, List, ℕ, length, true, Ok}
 use Rattle.lists.specs.Lists.{Has, Distinct}
 use Rattle.lists.specs.Ranges.{OneTo}
 use Rattle.diagrams.specs.Check.{Accepts}
 use Rattle.listing.specs.Listing.{count}
-use Rattle.listing_ranking.specs.declared.Total.TheVariants.{Number}
-use Rattle.labelling_answers.specs.declared.KeepMark.TheVariants.{Yes}
 use Rattle.run_kept_count.specs.Promises.{KeptCountPromise}
 use Rattle.theorems.specs.KeepMark.{KeptAnswers, AtPosition}
 
@@ -32,8 +30,8 @@ pub record CountedClasses (n c : ℕ) : Type 0 where
   pub as_many : length kept_positions ≡ c
   pub representatives : Representatives n kept_positions
   pub however_chosen : (qs : List ℕ) → Representatives n qs → length qs ≡ c
-  pub marked : (p : ℕ) → Has p kept_positions → KeptAnswers n p Yes
-  pub all_marked : (p : ℕ) → OneTo (count n) p → KeptAnswers n p Yes → Has p kept_positions
+  pub marked : (p : ℕ) → Has p kept_positions → KeptAnswers n p (Ok true)
+  pub all_marked : (p : ℕ) → OneTo (count n) p → KeptAnswers n p (Ok true) → Has p kept_positions
 
 abbrev pub KeptCountHolds : Type 0
-KeptCountHolds = (n c : ℕ) → KeptCountPromise n (Number c) → CountedClasses n c
+KeptCountHolds = (n c : ℕ) → KeptCountPromise n (Ok c) → CountedClasses n c

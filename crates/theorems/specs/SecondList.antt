@@ -18,7 +18,7 @@
 --   BegunAtHolds                 a run that begins at a position is one that steps could have left
 -- and from elsewhere: BeginPromise, BeginAtPromise, finished n (run_steps, Promises); listing, count, Sorted, diagram_at, word_at (listing); Written, Untouched (words,
 -- Outputs); InPlace n p, the diagram at p is one of size n in its characteristic labelling with the p-th word (FirstList).
-use Rattle.std.specs.Prelude.{◌≡◌, ◌↔◌, List, [], ◌∷◌, ◌++◌, map, ℕ, zero, suc, ◌+◌, ◌≤◌, ◌<◌, length, take, get_or}
+use Rattle.std.specs.Prelude.{◌≡◌, ◌↔◌, List, [], ◌∷◌, ◌++◌, map, ℕ, zero, suc, ◌+◌, ◌≤◌, ◌<◌, length, take, get_or, Option, Some, None, Result, Ok, Err}
 use Rattle.lists.specs.Ranges.{OneTo}
 use Rattle.diagrams.specs.Isomorphism.{RootedIsomorphic}
 use Rattle.diagrams.specs.Check.{Accepts}
@@ -28,9 +28,7 @@ use Rattle.listing.specs.Listing.{listing, count, Sorted}
 use Rattle.listing.specs.Position.{word_at}
 use Rattle.listing.specs.Diagrams.{diagram_of, diagram_at}
 use Rattle.run_answers.specs.declared.Run.{Run}
-use Rattle.run_answers.specs.declared.Beginning.TheVariants.{Begun}
-use Rattle.run_answers.specs.declared.Stepping.{Stepping}
-use Rattle.run_answers.specs.declared.Stepping.TheVariants.{Length, End, Refused}
+use Rattle.refusals.specs.declared.Refusal.{Refusal}
 use Rattle.run_steps.specs.Promises.{finished, BeginPromise, BeginAtPromise, StepPromise}
 use Rattle.theorems.specs.FirstList.{InPlace}
 
@@ -41,7 +39,7 @@ pub record Step : Type 0 where
   pub s0_after : List ℕ
   pub s1_after : List ℕ
   pub word_after : List ℕ
-  pub answer : Stepping
+  pub answer : Result (Option ℕ) Refusal
 
 abbrev pub Happened : Run → Run → Step → Type 0
 Happened run next s = StepPromise run next s.s0 s.s1 s.word s.s0_after s.s1_after s.word_after s.answer
@@ -50,10 +48,10 @@ abbrev pub History : Run → List Step → Run → Type 0
 History run [] end = end ≡ run
 History run (s ∷ steps) end = (next : Run) × Happened run next s × History next steps end
 
-abbrev pub writes : Stepping → ℕ
-writes (Length m) = 1
-writes End = 0
-writes (Refused k) = 0
+abbrev pub writes : Result (Option ℕ) Refusal → ℕ
+writes (Ok (Some m)) = 1
+writes (Ok None) = 0
+writes (Err e) = 0
 
 abbrev pub written : List Step → ℕ
 written [] = 0
@@ -69,10 +67,10 @@ abbrev pub row_of : List ℕ → Row
 row_of w = record { diagram = diagram_of w; word = w }
 
 -- n entries of the black list, n of the white list, and a word as long as it answered
-abbrev pub handed : ℕ → Step → Stepping → List Row
-handed n s (Length m) = record { diagram = record { black = take n s.s0_after; white = take n s.s1_after }; word = take m s.word_after } ∷ []
-handed n s End = []
-handed n s (Refused k) = []
+abbrev pub handed : ℕ → Step → Result (Option ℕ) Refusal → List Row
+handed n s (Ok (Some m)) = record { diagram = record { black = take n s.s0_after; white = take n s.s1_after }; word = take m s.word_after } ∷ []
+handed n s (Ok None) = []
+handed n s (Err e) = []
 
 abbrev pub rows : ℕ → List Step → List Row
 rows n [] = []
@@ -88,21 +86,21 @@ IsRow s0 s1 root r = RootedIsomorphic s0 s1 root r.diagram.black r.diagram.white
 -- ---- the step that comes next
 
 -- What a step s does after p diagrams have been given, by its answer; `end` is the run before it, `next` the run after it.
-abbrev pub StepDoes : ℕ → ℕ → Run → Run → Step → Stepping → Type 0
+abbrev pub StepDoes : ℕ → ℕ → Run → Run → Step → Result (Option ℕ) Refusal → Type 0
 -- it writes the diagram at the next position, p + 1, with its word
-StepDoes n p end next s (Length m) =
+StepDoes n p end next s (Ok (Some m)) =
     (p < count n) × InPlace n (suc p) × (m ≡ length (word_at n (suc p)))
     × Written (diagram_at n (suc p)) (word_at n (suc p)) s.s0 s.s1 s.word s.s0_after s.s1_after s.word_after
 -- all have been given before it
-StepDoes n p end next s End = (p ≡ count n) × (next ≡ finished n) × Untouched s.s0 s.s1 s.word s.s0_after s.s1_after s.word_after
+StepDoes n p end next s (Ok None) = (p ≡ count n) × (next ≡ finished n) × Untouched s.s0 s.s1 s.word s.s0_after s.s1_after s.word_after
 -- a refused step alters nothing
-StepDoes n p end next s (Refused k) = (next ≡ end) × Untouched s.s0 s.s1 s.word s.s0_after s.s1_after s.word_after
+StepDoes n p end next s (Err e) = (next ≡ end) × Untouched s.s0 s.s1 s.word s.s0_after s.s1_after s.word_after
 
 -- the answer is not a refusal
-abbrev pub Accepted : Stepping → Type 0
-Accepted (Length m) = Unit {0}
-Accepted End = Unit {0}
-Accepted (Refused k) = ⊥
+abbrev pub Accepted : Result (Option ℕ) Refusal → Type 0
+Accepted (Ok (Some m)) = Unit {0}
+Accepted (Ok None) = Unit {0}
+Accepted (Err e) = ⊥
 
 -- The theorem, for the steps of a history from a begun run of size n that left the run `end`.
 pub record SecondList (n : ℕ) (steps : List Step) (end : Run) : Type 0 where
@@ -128,13 +126,13 @@ pub record SecondList (n : ℕ) (steps : List Step) (end : Run) : Type 0 where
   -- the step that follows gives the diagram at the next position, or answers "end", or is refused and alters nothing
   pub next_step : (next : Run) (s : Step) → Happened end next s → StepDoes n (written steps) end next s s.answer
   -- a step that is not refused answers "end" exactly when all have been given before it
-  pub end_exactly : (next : Run) (s : Step) → Happened end next s → Accepted s.answer → (s.answer ≡ End) ↔ (written steps ≡ count n)
+  pub end_exactly : (next : Run) (s : Step) → Happened end next s → Accepted s.answer → (s.answer ≡ Ok None) ↔ (written steps ≡ count n)
 
 -- The second list of demand 3: for every size, every run that an accepted beginning left, and every list of steps from it.
 abbrev pub SecondListHolds : Type 0
-SecondListHolds = (n : ℕ) (run : Run) → BeginPromise n run Begun → (steps : List Step) (end : Run) → History run steps end → SecondList n steps end
+SecondListHolds = (n : ℕ) (run : Run) → BeginPromise n run (Ok tt) → (steps : List Step) (end : Run) → History run steps end → SecondList n steps end
 
 -- A run that begins at a position is one that steps could have left, so that the second list goes on from there: p diagrams have been given.
 abbrev pub BegunAtHolds : Type 0
-BegunAtHolds = (n p : ℕ) (run start : Run) → BeginAtPromise n p run Begun → BeginPromise n start Begun
+BegunAtHolds = (n p : ℕ) (run start : Run) → BeginAtPromise n p run (Ok tt) → BeginPromise n start (Ok tt)
     → (steps : List Step) × History start steps run × (written steps ≡ p)

@@ -12,19 +12,17 @@
 --   cell_at C i               cell i of its sheet, from 0;  pair_at C i, the pair in place i of the two lists handed back
 -- and from elsewhere: cells, cell, word_in, tail_of, refused_with, found_at, CellAnswer (crate sheet, Cells); Divided, SheetPromise (Promises); Outputs, front, Reads
 -- (Demand2); PositionPromise (listing_ranking, Promises); count, word_at (crate listing).
-use Rattle.std.specs.Prelude.{◌≡◌, ◌≢◌, List, [], ◌∷◌, ◌++◌, ℕ, ◌-◌, ◌≤◌, ◌<◌, length, get_or, replicate}
+use Rattle.std.specs.Prelude.{◌≡◌, ◌≢◌, List, [], ◌∷◌, ◌++◌, ℕ, ◌-◌, ◌≤◌, ◌<◌, length, get_or, replicate, Result, Ok, Err}
 use Rattle.lists.specs.Lists.{at, All, Has}
 use Rattle.lists.specs.Ranges.{OneTo}
-use Rattle.words_reading.specs.declared.Reading.{Reading}
-use Rattle.words_reading.specs.declared.Reading.TheVariants as reading
+use Rattle.refusals.specs.declared.Refusal.{Refusal}
+use Rattle.refusals.specs.declared.Refusal.TheVariants as refusal
+use Rattle.refusals.specs.Numbers.{number, refusal_number}
 use Rattle.listing.specs.Listing.{count}
 use Rattle.listing.specs.Position.{word_at}
-use Rattle.listing_ranking.specs.declared.Place.{Place}
-use Rattle.listing_ranking.specs.Answers.{located_number, located_position}
+use Rattle.listing_ranking.specs.Answers.{located_position}
 use Rattle.listing_ranking.specs.Promises.{PositionPromise}
 use Rattle.sheet.specs.declared.CellAnswer.{CellAnswer}
-use Rattle.sheet.specs.declared.SheetAnswer.{SheetAnswer}
-use Rattle.sheet.specs.declared.SheetAnswer.TheVariants as sheet
 use Rattle.sheet.specs.Cells.{cells, word_in, tail_of, cell, refused_with, found_at}
 use Rattle.sheet.specs.Promises.{Divided, SheetPromise}
 use Rattle.theorems.specs.Demand2.{Outputs, front, Reads}
@@ -54,10 +52,10 @@ cell_of w = length w ∷ (w ++ replicate (51 - length w) 0)
 abbrev pub Refusals : ℕ → Type 0
 Refusals k = Has k (0 ∷ 61 ∷ 21 ∷ 26 ∷ 22 ∷ 23 ∷ 25 ∷ 31 ∷ [])
 
-abbrev pub CallsAnswer : Outputs → Reading → CellAnswer → Type 0
-CallsAnswer O (reading.Refused k) a = a ≡ refused_with k
-CallsAnswer O (reading.Size n) a =
-    (q : Place) → PositionPromise (front n O).black (front n O).white 1 q → (a.refusal ≡ located_number q) × (a.position ≡ located_position q 0)
+abbrev pub CallsAnswer : Outputs → Result ℕ Refusal → CellAnswer → Type 0
+CallsAnswer O (Err e) a = a ≡ refused_with (number e)
+CallsAnswer O (Ok n) a =
+    (q : Result ℕ Refusal) → PositionPromise (front n O).black (front n O).white 1 q → (a.refusal ≡ refusal_number q) × (a.position ≡ located_position q 0)
 
 abbrev pub StandsAt : ℕ → List ℕ → Type 0
 StandsAt p w = (n : ℕ) × OneTo 50 n × OneTo (count n) p × (word_at n p ≡ w)
@@ -67,9 +65,9 @@ pub record CellHolds (c : List ℕ) : Type 0 where
   pub too_long : 51 < at c 1 → cell c ≡ refused_with 61
   pub in_tail : (x : ℕ) → Has x (tail_of c) → x ≢ 0 → cell c ≡ refused_with 61
   -- otherwise what the two calls answer: read word into any lists that it does not refuse as short, and then position
-  pub as_calls : at c 1 ≤ 51 → All (λ x. x ≡ 0) (tail_of c) → (O : Outputs) (r : Reading) → Reads (word_in c) O r → r ≢ reading.Refused 9 → CallsAnswer O r (cell c)
+  pub as_calls : at c 1 ≤ 51 → All (λ x. x ≡ 0) (tail_of c) → (O : Outputs) (r : Result ℕ Refusal) → Reads (word_in c) O r → r ≢ Err refusal.ListShort → CallsAnswer O r (cell c)
   -- lists of 100 are long enough
-  pub long_enough : at c 1 ≤ 51 → (O : Outputs) (r : Reading) → 100 ≤ length O.s0 → 100 ≤ length O.s1 → Reads (word_in c) O r → r ≢ reading.Refused 9
+  pub long_enough : at c 1 ≤ 51 → (O : Outputs) (r : Result ℕ Refusal) → 100 ≤ length O.s0 → 100 ≤ length O.s1 → Reads (word_in c) O r → r ≢ Err refusal.ListShort
   -- a refused cell has position 0, and one that is not refused the position where its word stands
   pub numbers : Refusals (cell c).refusal
   pub refused_at_0 : (cell c).refusal ≢ 0 → (cell c).position ≡ 0
@@ -85,7 +83,7 @@ pub record SheetCall : Type 0 where
   pub positions_after : List ℕ
 
 abbrev pub Answers : SheetCall → Type 0
-Answers C = SheetPromise C.numbers C.refusals C.positions C.refusals_after C.positions_after sheet.Answered
+Answers C = SheetPromise C.numbers C.refusals C.positions C.refusals_after C.positions_after (Ok tt)
 
 abbrev pub pair_at : SheetCall → ℕ → CellAnswer
 pair_at C i = record { refusal = get_or C.refusals_after i 0; position = get_or C.positions_after i 0 }
@@ -107,4 +105,4 @@ pub record SheetsHold : Type 0 where
   pub independent : (C E : SheetCall) → Answers C → Answers E → (i j : ℕ) → i < length (cells C.numbers) → j < length (cells E.numbers)
       → cell_at C i ≡ cell_at E j → pair_at C i ≡ pair_at E j
   -- an empty sheet is taken with any lists and writes nothing
-  pub empty : (a b c d : List ℕ) (r : SheetAnswer) → SheetPromise [] a b c d r → (r ≡ sheet.Answered) × (c ≡ a) × (d ≡ b)
+  pub empty : (a b c d : List ℕ) (r : Result (Unit {0}) Refusal) → SheetPromise [] a b c d r → (r ≡ Ok tt) × (c ≡ a) × (d ≡ b)

@@ -14,12 +14,12 @@
 -- word_of, characteristic (labelling); Accepts, CheckPromise (diagrams, Check); reading_answer (words_reading, Read); first, last, ShareHolds (book);
 -- CountPromise, DiagramAtPromise (listing_ranking, Promises); summary (census_definition, Census); KeptCountPromise (run_kept_count, Promises); total, visits (upto); refusals, positions (sheet, Cells); cell_of, joined (Sheets); opened, claim_book,
 -- commit_answer (book, Calls).
-use Rattle.std.specs.Prelude.{◌≡◌, List, [], ◌∷◌, map, ℕ, ℤ, pos, replicate}
+use Rattle.std.specs.Prelude.{◌≡◌, List, [], ◌∷◌, map, ℕ, ℤ, pos, replicate, Ok, Err}
 use Rattle.std.proofs.Math.Option.{some}
 use Rattle.lists.specs.Lists.{at}
 use Rattle.lists.specs.Ranges.{OneTo}
 use Rattle.diagrams.specs.Check.{Accepts, CheckPromise}
-use Rattle.diagrams.specs.declared.Verdict.TheVariants as verdict
+use Rattle.refusals.specs.declared.Refusal.TheVariants as refusal
 use Rattle.words.specs.Word.{Pair, spell}
 use Rattle.words.specs.Letters.{letters}
 use Rattle.words.specs.Outputs.{overwrite, Short}
@@ -30,8 +30,6 @@ use Rattle.listing.specs.Listing.{listing, count}
 use Rattle.listing.specs.Position.{word_at}
 use Rattle.listing.specs.Diagrams.{diagram_at}
 use Rattle.run_blocks.specs.Rows.{MarkOf}
-use Rattle.listing_ranking.specs.declared.Total.TheVariants as total
-use Rattle.listing_ranking.specs.declared.Entry.TheVariants as entry
 use Rattle.listing_ranking.specs.Promises.{CountPromise, DiagramAtPromise}
 use Rattle.run_kept_count.specs.Promises.{KeptCountPromise}
 use Rattle.census_definition.specs.Census as census
@@ -39,7 +37,6 @@ use Rattle.upto.specs.Upto as upto
 use Rattle.upto.specs.Visits.{visits}
 use Rattle.sheet.specs.Cells as sheet
 use Rattle.book.specs.declared.types.Book.{Book}
-use Rattle.book.specs.declared.types.Committing.TheVariants as committing
 use Rattle.book.specs.Shares.{first, last}
 use Rattle.book.specs.Holding.{ShareHolds}
 use Rattle.book.specs.Calls.{opened, claim_book, commit_answer}
@@ -149,7 +146,7 @@ pub record Table : Type 0 where
   -- (h) s0 1,3,4,2, s1 2,1,3,4, root 3 gives TBWW, s0 2,3,1,4, s1 1,2,4,3
   pub h : RelabelsTo (1 ∷ 3 ∷ 4 ∷ 2 ∷ []) (2 ∷ 1 ∷ 3 ∷ 4 ∷ []) 3 (1 ∷ 2 ∷ 0 ∷ 0 ∷ []) (T ∷ B ∷ W ∷ W ∷ []) (2 ∷ 3 ∷ 1 ∷ 4 ∷ []) (1 ∷ 2 ∷ 4 ∷ 3 ∷ [])
   -- (i) s0 1,2 with s1 1,2 is refused 8, whichever edge is the root
-  pub i : (root : ℕ) → OneTo 2 root → CheckPromise (1 ∷ 2 ∷ []) (1 ∷ 2 ∷ []) root (verdict.Refused 8)
+  pub i : (root : ℕ) → OneTo 2 root → CheckPromise (1 ∷ 2 ∷ []) (1 ∷ 2 ∷ []) root (Err refusal.NotConnected)
   -- (j) word TW is refused 25, whatever room the two lists have
   pub j : (letters (1 ∷ 0 ∷ []) ≡ T ∷ W ∷ []) × ((room0 room1 : ℕ) → reading_answer (1 ∷ 0 ∷ []) room0 room1 ≡ refused 25)
   -- (k) size 4 in 3 shares: 1-2, 3-5, 6-8
@@ -173,12 +170,12 @@ claimed = claim_book (opened 4 3) 10 1 5
 
 pub record Limits : Type 0 where
   -- size 50 taken, 51 refused 31
-  pub size_50 : CountPromise 50 (total.Number (count 50))
-  pub size_51 : CountPromise 51 (total.Refused 31) × KeptCountPromise 51 (total.Refused 31)
+  pub size_50 : CountPromise 50 (Ok (count 50))
+  pub size_51 : CountPromise 51 (Err refusal.ListedSizeOutOfRange) × KeptCountPromise 51 (Err refusal.ListedSizeOutOfRange)
   -- position 8 of size 4 taken, 9 refused 32
   pub position_8 : (a0 a1 aw : List ℕ) → ¬ Short 4 a0 a1 aw
-      → DiagramAtPromise 4 8 a0 a1 aw (overwrite (2 ∷ 3 ∷ 1 ∷ 4 ∷ []) a0) (overwrite (3 ∷ 4 ∷ 1 ∷ 2 ∷ []) a1) (overwrite (1 ∷ 4 ∷ 2 ∷ []) aw) (entry.Length 3)
-  pub position_9 : (a0 a1 aw : List ℕ) → DiagramAtPromise 4 9 a0 a1 aw a0 a1 aw (entry.Refused 32)
+      → DiagramAtPromise 4 8 a0 a1 aw (overwrite (2 ∷ 3 ∷ 1 ∷ 4 ∷ []) a0) (overwrite (3 ∷ 4 ∷ 1 ∷ 2 ∷ []) a1) (overwrite (1 ∷ 4 ∷ 2 ∷ []) aw) (Ok 3)
+  pub position_9 : (a0 a1 aw : List ℕ) → DiagramAtPromise 4 9 a0 a1 aw a0 a1 aw (Err refusal.PositionOutOfRange)
   -- commit one tick before expiry taken, at expiry refused 59
-  pub before_expiry : commit_answer claimed 14 1 1 ≡ committing.Committed
-  pub at_expiry : commit_answer claimed 15 1 1 ≡ committing.Refused 59
+  pub before_expiry : commit_answer claimed 14 1 1 ≡ Ok tt
+  pub at_expiry : commit_answer claimed 15 1 1 ≡ Err refusal.TicketLapsed

@@ -15,7 +15,7 @@
 --   UptoAccepted answer          it is not a refusal
 --   UptoList n steps end         the theorem
 -- and from elsewhere: UptoBeginPromise, finished_upto n (upto_answers, Promises); upto, total, word_upto, size_of, of_size, visits (upto).
-use Rattle.std.specs.Prelude.{◌≡◌, ◌↔◌, List, [], ◌∷◌, ◌++◌, map, ℕ, zero, suc, ◌+◌, ◌*◌, ◌≤◌, ◌<◌, length, take, get_or}
+use Rattle.std.specs.Prelude.{◌≡◌, ◌↔◌, List, [], ◌∷◌, ◌++◌, map, ℕ, zero, suc, ◌+◌, ◌*◌, ◌≤◌, ◌<◌, length, take, get_or, Option, Some, None, Result, Ok, Err}
 use Rattle.lists.specs.Ranges.{OneTo, stretch}
 use Rattle.diagrams.specs.Isomorphism.{RootedIsomorphic}
 use Rattle.diagrams.specs.Check.{Accepts}
@@ -23,12 +23,11 @@ use Rattle.words.specs.Word.{Pair}
 use Rattle.words.specs.Outputs.{Written, Untouched}
 use Rattle.listing.specs.Listing.{listing, Sorted}
 use Rattle.listing.specs.Diagrams.{diagram_of}
-use Rattle.run_answers.specs.declared.Beginning.TheVariants.{Begun}
+use Rattle.refusals.specs.declared.Refusal.{Refusal}
 use Rattle.upto.specs.Upto.{upto, total, word_upto, size_of, of_size}
 use Rattle.upto.specs.Visits.{visits}
 use Rattle.upto_answers.specs.declared.UptoRun.{UptoRun}
-use Rattle.upto_answers.specs.declared.UptoStepping.{UptoStepping}
-use Rattle.upto_answers.specs.declared.UptoStepping.TheVariants.{Given, End, Refused}
+use Rattle.upto_answers.specs.declared.UptoGiven.{UptoGiven}
 use Rattle.upto_answers.specs.Promises.{finished_upto, UptoBeginPromise, UptoStepPromise}
 use Rattle.theorems.specs.Listing.{ExactlyOne}
 
@@ -39,7 +38,7 @@ pub record UptoStep : Type 0 where
   pub s0_after : List ℕ
   pub s1_after : List ℕ
   pub word_after : List ℕ
-  pub answer : UptoStepping
+  pub answer : Result (Option UptoGiven) Refusal
 
 abbrev pub UptoHappened : UptoRun → UptoRun → UptoStep → Type 0
 UptoHappened run next s = UptoStepPromise run next s.s0 s.s1 s.word s.s0_after s.s1_after s.word_after s.answer
@@ -48,10 +47,10 @@ abbrev pub UptoHistory : UptoRun → List UptoStep → UptoRun → Type 0
 UptoHistory run [] end = end ≡ run
 UptoHistory run (s ∷ steps) end = (next : UptoRun) × UptoHappened run next s × UptoHistory next steps end
 
-abbrev pub upto_writes : UptoStepping → ℕ
-upto_writes (Given n m v) = 1
-upto_writes End = 0
-upto_writes (Refused k) = 0
+abbrev pub upto_writes : Result (Option UptoGiven) Refusal → ℕ
+upto_writes (Ok (Some g)) = 1
+upto_writes (Ok None) = 0
+upto_writes (Err e) = 0
 
 abbrev pub upto_written : List UptoStep → ℕ
 upto_written [] = 0
@@ -72,10 +71,10 @@ abbrev pub upto_row : ℕ → ℕ → UptoRow
 upto_row n p = row_of_word (word_upto n p) (visits n p)
 
 -- as many entries of the black and the white list as the size it answered, and a word as long as it answered
-abbrev pub upto_handed : UptoStep → UptoStepping → List UptoRow
-upto_handed s (Given n m v) = record { diagram = record { black = take n s.s0_after; white = take n s.s1_after }; word = take m s.word_after; size = n; visits = v } ∷ []
-upto_handed s End = []
-upto_handed s (Refused k) = []
+abbrev pub upto_handed : UptoStep → Result (Option UptoGiven) Refusal → List UptoRow
+upto_handed s (Ok (Some g)) = record { diagram = record { black = take g.size s.s0_after; white = take g.size s.s1_after }; word = take g.length s.word_after; size = g.size; visits = g.visits } ∷ []
+upto_handed s (Ok None) = []
+upto_handed s (Err e) = []
 
 abbrev pub upto_rows : List UptoStep → List UptoRow
 upto_rows [] = []
@@ -94,21 +93,21 @@ IsUptoRow s0 s1 root r = RootedIsomorphic s0 s1 root r.diagram.black r.diagram.w
 -- ---- the step that comes next
 
 -- What a step s does after p diagrams have been given, by its answer; `end` is the run before it, `next` the run after it.
-abbrev pub UptoDoes : ℕ → ℕ → UptoRun → UptoRun → UptoStep → UptoStepping → Type 0
+abbrev pub UptoDoes : ℕ → ℕ → UptoRun → UptoRun → UptoStep → Result (Option UptoGiven) Refusal → Type 0
 -- it writes the diagram at the next place, p + 1, and answers its size, its word's length and its visits
-UptoDoes n p end next s (Given size m v) =
-    (p < total n) × (size ≡ size_of (word_upto n (suc p))) × (m ≡ length (word_upto n (suc p))) × (v ≡ visits n (suc p))
+UptoDoes n p end next s (Ok (Some g)) =
+    (p < total n) × (g.size ≡ size_of (word_upto n (suc p))) × (g.length ≡ length (word_upto n (suc p))) × (g.visits ≡ visits n (suc p))
     × Written (diagram_of (word_upto n (suc p))) (word_upto n (suc p)) s.s0 s.s1 s.word s.s0_after s.s1_after s.word_after
 -- all have been given before it
-UptoDoes n p end next s End = (p ≡ total n) × (next ≡ finished_upto n) × Untouched s.s0 s.s1 s.word s.s0_after s.s1_after s.word_after
+UptoDoes n p end next s (Ok None) = (p ≡ total n) × (next ≡ finished_upto n) × Untouched s.s0 s.s1 s.word s.s0_after s.s1_after s.word_after
 -- a refused step alters nothing
-UptoDoes n p end next s (Refused k) = (next ≡ end) × Untouched s.s0 s.s1 s.word s.s0_after s.s1_after s.word_after
+UptoDoes n p end next s (Err e) = (next ≡ end) × Untouched s.s0 s.s1 s.word s.s0_after s.s1_after s.word_after
 
 -- the answer is not a refusal
-abbrev pub UptoAccepted : UptoStepping → Type 0
-UptoAccepted (Given n m v) = Unit {0}
-UptoAccepted End = Unit {0}
-UptoAccepted (Refused k) = ⊥
+abbrev pub UptoAccepted : Result (Option UptoGiven) Refusal → Type 0
+UptoAccepted (Ok (Some g)) = Unit {0}
+UptoAccepted (Ok None) = Unit {0}
+UptoAccepted (Err e) = ⊥
 
 -- The theorem, for the steps of a history from a begun run of bound n that left the run `end`.
 pub record UptoList (n : ℕ) (steps : List UptoStep) (end : UptoRun) : Type 0 where
@@ -136,8 +135,8 @@ pub record UptoList (n : ℕ) (steps : List UptoStep) (end : UptoRun) : Type 0 w
   -- the step that follows gives the diagram at the next place, or answers "end", or is refused and alters nothing
   pub next_step : (next : UptoRun) (s : UptoStep) → UptoHappened end next s → UptoDoes n (upto_written steps) end next s s.answer
   -- a step that is not refused answers "end" exactly when all have been given before it
-  pub end_exactly : (next : UptoRun) (s : UptoStep) → UptoHappened end next s → UptoAccepted s.answer → (s.answer ≡ End) ↔ (upto_written steps ≡ total n)
+  pub end_exactly : (next : UptoRun) (s : UptoStep) → UptoHappened end next s → UptoAccepted s.answer → (s.answer ≡ Ok None) ↔ (upto_written steps ≡ total n)
 
 -- For every bound, every run that an accepted beginning left, and every list of steps from it.
 abbrev pub UptoListHolds : Type 0
-UptoListHolds = (n : ℕ) (run : UptoRun) → UptoBeginPromise n run Begun → (steps : List UptoStep) (end : UptoRun) → UptoHistory run steps end → UptoList n steps end
+UptoListHolds = (n : ℕ) (run : UptoRun) → UptoBeginPromise n run (Ok tt) → (steps : List UptoStep) (end : UptoRun) → UptoHistory run steps end → UptoList n steps end

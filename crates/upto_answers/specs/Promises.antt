@@ -1,4 +1,4 @@
--- What the beginning and the step of a run through the single list promise (request U1), by the cases of their answers. The run is an iterator
+-- What the beginning and the step of a run through the single list promise, by the cases of their answers. The run is an iterator
 -- over the single list, with a state that can be stored. Lists named a are as they were lent, lists named b as they are handed back.
 --
 --   blank_upto                  the run of no bound, all zeros: what a refused beginning hands back
@@ -8,19 +8,17 @@
 --   finished_upto n             the run after the last diagram, with that diagram's visits
 --   UptoAt n p run             it is the run that has given p diagrams, of a bound 1..50
 --   UptoFinished n run         it is a finished run, of a bound 1..50
-use Rattle.std.specs.Prelude.{◌≡◌, ◌⊎◌, List, ◌++◌, ℕ, zero, suc, ◌-◌, ◌≤◌, ◌<◌, length, replicate}
+use Rattle.std.specs.Prelude.{◌≡◌, ◌⊎◌, List, ◌++◌, ℕ, zero, suc, ◌-◌, ◌≤◌, ◌<◌, length, replicate, Option, Some, None, Result, Ok, Err}
 use Rattle.lists.specs.Ranges.{OneTo}
 use Rattle.words.specs.Outputs.{Short, Written, Untouched}
 use Rattle.listing.specs.Diagrams.{diagram_of}
-use Rattle.run_answers.specs.declared.Beginning.{Beginning}
-use Rattle.run_answers.specs.declared.Beginning.TheVariants as beginning
-use Rattle.run_answers.specs.Answers.{begin_number}
+use Rattle.refusals.specs.declared.Refusal.{Refusal}
+use Rattle.refusals.specs.Numbers.{number}
 use Rattle.upto.specs.Upto.{total, word_upto, size_of}
 use Rattle.upto.specs.Visits.{visits}
 use Rattle.upto_answers.specs.declared.UptoRun.{UptoRun}
-use Rattle.upto_answers.specs.declared.UptoStepping.{UptoStepping}
-use Rattle.upto_answers.specs.declared.UptoStepping.TheVariants as stepping
-use Rattle.upto_answers.specs.Answers.{upto_number, upto_size, upto_length, upto_visits}
+use Rattle.upto_answers.specs.declared.UptoGiven.{UptoGiven}
+use Rattle.upto_answers.specs.Answers.{upto_size, upto_length, upto_visits}
 
 abbrev pub blank_upto : UptoRun
 blank_upto = record { bound = 0; stage = 0; length = 0; visits = 0; items = replicate 51 0 }
@@ -48,9 +46,9 @@ pub record UptoFinished (n : ℕ) (run : UptoRun) : Type 0 where
   pub is : run ≡ finished_upto n
 
 -- 31: the bound is outside 1..50
-abbrev pub UptoBeginPromise : ℕ → UptoRun → Beginning → Type 0
-UptoBeginPromise n run beginning.Begun = OneTo 50 n × (run ≡ fresh_upto n)
-UptoBeginPromise n run (beginning.Refused k) = (begin_number (beginning.Refused k) ≡ 31) × (¬ OneTo 50 n) × (run ≡ blank_upto)
+abbrev pub UptoBeginPromise : ℕ → UptoRun → Result (Unit {0}) Refusal → Type 0
+UptoBeginPromise n run (Ok u) = OneTo 50 n × (run ≡ fresh_upto n)
+UptoBeginPromise n run (Err e) = (number e ≡ 31) × (¬ OneTo 50 n) × (run ≡ blank_upto)
 
 -- 34: the run is neither fresh, nor at a diagram with its visits, nor finished with those of the last; 9: a diagram comes, and an output list is short for its size
 abbrev pub RefusedUpto : UptoRun → List ℕ → List ℕ → List ℕ → ℕ → Type 0
@@ -70,12 +68,12 @@ pub record UptoGives (n p : ℕ) (run next : UptoRun) (a0 a1 aw b0 b1 bw : List 
   pub written : Written (diagram_of (word_upto n (suc p))) (word_upto n (suc p)) a0 a1 aw b0 b1 bw
 
 -- the run before and after, the lists before and after
-abbrev pub UptoStepPromise : UptoRun → UptoRun → List ℕ → List ℕ → List ℕ → List ℕ → List ℕ → List ℕ → UptoStepping → Type 0
-UptoStepPromise run next a0 a1 aw b0 b1 bw (stepping.Given size m v) =
+abbrev pub UptoStepPromise : UptoRun → UptoRun → List ℕ → List ℕ → List ℕ → List ℕ → List ℕ → List ℕ → Result (Option UptoGiven) Refusal → Type 0
+UptoStepPromise run next a0 a1 aw b0 b1 bw (Ok (Some g)) =
     (n : ℕ) × (p : ℕ)
-    × UptoGives n p run next a0 a1 aw b0 b1 bw (upto_size (stepping.Given size m v) 0) (upto_length (stepping.Given size m v) 0) (upto_visits (stepping.Given size m v) 0)
+    × UptoGives n p run next a0 a1 aw b0 b1 bw (upto_size (Ok (Some g)) 0) (upto_length (Ok (Some g)) 0) (upto_visits (Ok (Some g)) 0)
 -- all have been given: no list is asked for room
-UptoStepPromise run next a0 a1 aw b0 b1 bw stepping.End =
+UptoStepPromise run next a0 a1 aw b0 b1 bw (Ok None) =
     ((n : ℕ) × (next ≡ finished_upto n) × (UptoFinished n run ⊎ UptoAt n (total n) run)) × Untouched a0 a1 aw b0 b1 bw
-UptoStepPromise run next a0 a1 aw b0 b1 bw (stepping.Refused k) =
-    RefusedUpto run a0 a1 aw (upto_number (stepping.Refused k)) × (next ≡ run) × Untouched a0 a1 aw b0 b1 bw
+UptoStepPromise run next a0 a1 aw b0 b1 bw (Err e) =
+    RefusedUpto run a0 a1 aw (number e) × (next ≡ run) × Untouched a0 a1 aw b0 b1 bw

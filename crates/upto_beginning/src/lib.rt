@@ -5,7 +5,7 @@ ghost use Rattle.std.specs.Prelude.{◌≡◌, replicate};
 ghost use Rattle.upto_answers.specs.Promises.{UptoBeginPromise};
 
 use diagrams::Diagram;
-use run_answers::Beginning;
+use refusals::Refusal;
 use run_beginning::listed;
 use upto_answers::{UptoBegun, UptoRun};
 
@@ -28,12 +28,12 @@ pub fn begin(n: u64) -> UptoBegun
 {
     if listed(n) {
         return UptoBegun {
-            answer: Beginning::Begun,
+            answer: Ok(()),
             run: empty(n, 0, 0),
         };
     }
     UptoBegun {
-        answer: Beginning::Refused(31),
+        answer: Err(Refusal::ListedSizeOutOfRange),
         run: empty(0, 0, 0),
     }
 }

@@ -11,11 +11,12 @@ ghost use Rattle.upto_words.specs.Within.{labels_of};
 ghost use Rattle.upto_words.specs.Successor.{following, following_shared};
 ghost use Rattle.upto_answers.specs.Promises.{UptoStepPromise};
 ghost use Rattle.upto_validity.specs.Valid.{ValidUpto};
-ghost use Rattle.upto_run.specs.Given.{UptoGiven};
+ghost use Rattle.upto_run.specs.Given as given;
 
 use listing_successor::Held;
+use refusals::Refusal;
 use run_next_diagram::short;
-pub use upto_answers::{UptoBegun, UptoRun, UptoStepped, UptoStepping};
+pub use upto_answers::{UptoBegun, UptoGiven, UptoRun, UptoStepped};
 pub use upto_beginning::begin;
 use upto_beginning::empty;
 use upto_size::labels_of;
@@ -33,13 +34,11 @@ fn next_word(run: UptoRun) -> Next
 }
 
 // The size of the diagram of a word: as many edges as it gives labels.
-fn size_of(next: Next) -> u16
-    requires { (k : ℕ) × (w : List ℕ) × (next ≡ shared_word k w) × (length w ≤ 51) }
-    ensures { (k : ℕ) (w : List ℕ) → next ≡ shared_word k w → result ≡ labels_of w }
+fn size_of(next: &Next) -> u16
+    requires { (k : ℕ) × (w : List ℕ) × (next.now ≡ shared_word k w) × (length w ≤ 51) }
+    ensures { (k : ℕ) (w : List ℕ) → next.now ≡ shared_word k w → result ≡ labels_of w }
 {
-    let length = next.length;
-    let items = next.items;
-    labels_of(&items[..length])
+    labels_of(&next.items[..next.length])
 }
 
 // Gives the diagram of a word, and the run that is at it.
@@ -54,17 +53,17 @@ fn give(
 ) -> UptoStepped
     requires { (size ≤ 50) × ((k : ℕ) × (w : List ℕ) × (next ≡ shared_word k w) × Word size w) × (¬ Short size s0.old s1.old word.old) }
     ensures { (k : ℕ) (w : List ℕ) → next ≡ shared_word k w → Word size w
-        → UptoGiven bound size visits w result s0.old s1.old word.old s0.new s1.new word.new }
+        → given.UptoGiven bound size visits w result s0.old s1.old word.old s0.new s1.new word.new }
 {
     let length = next.length;
     let items = next.items;
     run_next_diagram::give(size as u64, Held { length, items }, s0, s1, word);
     UptoStepped {
-        answer: UptoStepping::Given {
+        answer: Ok(Some(UptoGiven {
             size,
             length: length as u16,
             visits,
-        },
+        })),
         run: UptoRun {
             bound,
             stage: 1,
@@ -82,32 +81,27 @@ pub fn step(run: UptoRun, s0: &mut [u16], s1: &mut [u16], word: &mut [u16]) -> U
 {
     if !valid(run) {
         return UptoStepped {
-            answer: UptoStepping::Refused(34),
+            answer: Err(Refusal::RunNotValid),
             run,
         };
     }
     if run.stage == 2 {
         return UptoStepped {
-            answer: UptoStepping::End,
+            answer: Ok(None),
             run,
         };
     }
     let next = next_word(run);
     if next.length == 0 {
         return UptoStepped {
-            answer: UptoStepping::End,
+            answer: Ok(None),
             run: empty(run.bound, 2, run.visits),
         };
     }
-    let items = next.items;
-    let size = size_of(Next {
-        shared: next.shared,
-        length: next.length,
-        items,
-    });
+    let size = size_of(&next);
     if short(size as usize, s0.len(), s1.len(), word.len()) {
         return UptoStepped {
-            answer: UptoStepping::Refused(9),
+            answer: Err(Refusal::ListShort),
             run,
         };
     }

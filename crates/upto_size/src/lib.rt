@@ -42,10 +42,8 @@ pub fn labels_of(word: &[u16]) -> u16
         return 0;
     }
     let mut labels = first_labels(word[0]);
-    let mut i: usize = 1;
-    while i < word.len() {
+    for i in 1..word.len() {
         labels += item_labels(word[i]);
-        i += 1;
     }
     labels
 }

@@ -59,9 +59,7 @@ fn last_raise(items: &[u16], height: u16, free: u16) -> Raise
     let mut place: usize = 0;
     let mut event: u16 = 0;
     let mut pending: u16 = 0;
-    let mut i: usize = 0;
-    while i < items.len() {
-        let x = items[i];
+    for (i, &x) in items.iter().enumerate() {
         let e = above(h - 1, f, x);
         if 0 < e {
             place = i;
@@ -72,7 +70,6 @@ fn last_raise(items: &[u16], height: u16, free: u16) -> Raise
         let l = state_after_item(h, f, x);
         h = l.height;
         f = l.free;
-        i += 1;
     }
     Raise {
         place,

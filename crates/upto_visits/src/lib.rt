@@ -91,13 +91,11 @@ fn visits_from(items: &[u16], height: usize, free: usize) -> u64
     let mut visits: u64 = 0;
     let mut h = height;
     let mut f = free;
-    let mut i: usize = 0;
-    while i < items.len() {
-        let step = pass(h, f, items[i]);
+    for &item in items {
+        let step = pass(h, f, item);
         visits += step.before;
         h = step.height;
         f = step.free;
-        i += 1;
     }
     visits
 }

@@ -1,16 +1,7 @@
--- The answers of letters, as document 01 numbers them: a number is 01's of the refusal, 0 where the call is
--- accepted; a value is the answer's own, or `old` where the answer has no such value.
---
---   letters_number answer    22 or 9, or 0
---   letters_length           how many letters were written
-use Rattle.std.specs.Prelude.{ℕ}
-use Rattle.words.specs.declared.Lettered.{Lettered}
-use Rattle.words.specs.declared.Lettered.TheVariants as lettered
+-- The length that `letters` answers, or `old` where it refuses. The number of its refusal is `refusal_number` of crate refusals.
+use Rattle.std.specs.Prelude.{ℕ, Result, Ok, Err}
+use Rattle.refusals.specs.declared.Refusal.{Refusal}
 
-abbrev pub letters_number : Lettered → ℕ
-letters_number (lettered.Length n) = 0
-letters_number (lettered.Refused k) = k
-
-abbrev pub letters_length : Lettered → ℕ → ℕ
-letters_length (lettered.Length n) old = n
-letters_length (lettered.Refused k) old = old
+abbrev pub letters_length : Result ℕ Refusal → ℕ → ℕ
+letters_length (Ok n) old = n
+letters_length (Err e) old = old

@@ -1,15 +1,15 @@
--- Words as ASCII bytes, in their event letters (document 01, "Labelling and words" and "Small sizes, by hand"). The letters of events are
+-- Words as ASCII bytes, in their event letters. The letters of events are
 -- passed on from `words_letters`, numbers in decimal from `words_decimals`.
 --
 --   letters w                 U or T, then for each item W, F, B or J with d in decimal; a first item above 1 has no letter
 --   starts_with_root w          w has no item, or a first item that is 0 or 1
---   letters_answer w n         the answer of `letters` on room for n bytes: 22 where the first item is not 0 or 1, then 9 where the room is short,
---                             otherwise the number of letters
+--   letters_answer w n         the answer of `letters` on room for n bytes: FirstItem where the first item is not 0 or 1, then ListShort where
+--                             the room is short, otherwise the number of letters
 --   LettersAfter r w d e      the room d before is e after the answer r: the letters and then the rest of d, or d where it refuses
 --   LettersPromise w d r e    the promise of `letters`: that answer, and that room
-use Rattle.std.specs.Prelude.{◌≡◌, Bool, true, cond, List, [], ◌∷◌, ◌++◌, ℕ, zero, suc, leb, ltb, length, drop}
-use Rattle.words.specs.declared.Lettered.{Lettered}
-use Rattle.words.specs.declared.Lettered.TheVariants.{Length, Refused}
+use Rattle.std.specs.Prelude.{◌≡◌, Bool, true, cond, List, [], ◌∷◌, ◌++◌, ℕ, zero, suc, leb, ltb, length, drop, Result, Ok, Err}
+use Rattle.refusals.specs.declared.Refusal.{Refusal}
+use Rattle.refusals.specs.declared.Refusal.TheVariants.{ListShort, FirstItem}
 pub use Rattle.words_decimals.specs.Decimals.{BytesWritten, BytesPut}
 unfoldable pub use Rattle.words_decimals.specs.Decimals.{digits, decimal}
 pub use Rattle.words_letters.specs.EventLetters.{event_letters}
@@ -29,13 +29,13 @@ abbrev pub starts_with_root : List ℕ → Bool
 starts_with_root [] = true
 starts_with_root (x ∷ w) = ltb x 2
 
-abbrev pub letters_answer : List ℕ → ℕ → Lettered
-letters_answer w n = cond (starts_with_root w) (cond (leb (length (letters w)) n) (Length (length (letters w))) (Refused 9)) (Refused 22)
+abbrev pub letters_answer : List ℕ → ℕ → Result ℕ Refusal
+letters_answer w n = cond (starts_with_root w) (cond (leb (length (letters w)) n) (Ok (length (letters w))) (Err ListShort)) (Err FirstItem)
 
-abbrev pub LettersAfter : Lettered → List ℕ → List ℕ → List ℕ → Type 0
-LettersAfter (Length n) w d e = e ≡ letters w ++ drop n d
-LettersAfter (Refused k) w d e = e ≡ d
+abbrev pub LettersAfter : Result ℕ Refusal → List ℕ → List ℕ → List ℕ → Type 0
+LettersAfter (Ok n) w d e = e ≡ letters w ++ drop n d
+LettersAfter (Err k) w d e = e ≡ d
 
-pub record LettersPromise (w d : List ℕ) (r : Lettered) (e : List ℕ) : Type 0 where
+pub record LettersPromise (w d : List ℕ) (r : Result ℕ Refusal) (e : List ℕ) : Type 0 where
   pub answer : r ≡ letters_answer w (length d)
   pub room : LettersAfter r w d e

@@ -1,4 +1,4 @@
--- Lists that an operation writes to (document 01: "An accepted write fills the first places it needs; the rest is untouched").
+-- Lists that an operation writes to: an accepted write fills the first places it needs, and the rest is untouched.
 -- Lists named a are as they were lent, lists named b as they are handed back.
 --
 --   Short n a0 a1 aw    an output list is short for a diagram of n edges and its word: n, n, and n + 1 (refusal 9)

@@ -1,4 +1,4 @@
--- Words and the diagram that a word spells (document 01, "Labelling and words"). A word is a list of numbers: first U = 0 or T = 1,
+-- Words and the diagram that a word spells. A word is a list of numbers: first U = 0 or T = 1,
 -- then the events W = 0, F = 1, B = 2 and Jd = 3 + d. In the field's terms a diagram with its root is a rooted map, and its word the
 -- canonical word, or code, of that map.
 --

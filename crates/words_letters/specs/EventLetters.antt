@@ -1,4 +1,4 @@
--- The letters of events as ASCII bytes (document 01, "Labelling and words").
+-- The letters of events as ASCII bytes.
 --
 --   event_letters x           W, F, B, or J with d in decimal
 --   events_letters w          those of the events w, one after another

@@ -34,14 +34,12 @@ pub fn events_fit(items: &[u16], room: usize) -> bool
     ensures { result ≡ leb (length (events_letters items.now)) room }
 {
     let mut left = room;
-    let mut i: usize = 0;
-    while i < items.len() {
-        let n = event_length(items[i]);
+    for &x in items {
+        let n = event_length(x);
         if left < n {
             return false;
         }
         left -= n;
-        i += 1;
     }
     true
 }
@@ -65,10 +63,8 @@ pub fn put_events(out: &mut [u8], place: usize, items: &[u16]) -> usize
     ensures { BytesWritten out.old place (events_letters items.now) result out.new }
 {
     let mut next = place;
-    let mut i: usize = 0;
-    while i < items.len() {
-        next = put_event(out, next, items[i]);
-        i += 1;
+    for &x in items {
+        next = put_event(out, next, x);
     }
     next
 }

@@ -1,4 +1,4 @@
--- Dictionary order of words (document 01, "Labelling and words"), which is lexicographic order of lists of numbers: a list that begins a
+-- Dictionary order of words, which is lexicographic order of lists of numbers: a list that begins a
 -- longer one comes before it.
 --
 --   Before u v      u comes before v

@@ -8,17 +8,15 @@ ghost use Rattle.words_order.specs.Order.{precedes, lesser};
 pub fn precedes(a: &[u16], b: &[u16]) -> bool
     ensures { result ≡ precedes a.now b.now }
 {
-    let mut i: usize = 0;
-    while i < b.len() {
+    // `a < b` takes half as long again on words that differ late, and `a.cmp(&b)` twice as long on those that differ at once
+    for (i, &y) in b.iter().enumerate() {
         if a.len() <= i {
             return true;
         }
         let x = a[i];
-        let y = b[i];
         if x != y {
             return x < y;
         }
-        i += 1;
     }
     false
 }

@@ -10,6 +10,7 @@ use native.Mathlib.Omega.{arith}
 use lib.Dec.{leb}
 use lib.ListN.{length, get_or, set, take, drop, length-set, length-drop, drop_of_length-le}
 use lib.Seq.{drop-cons, length-take-le, take-suc-set}
+use Rattle.std.specs.Prelude.{Ok}
 use Rattle.lists.specs.Lists.{All}
 use Rattle.lists.proofs.Tests.{le-true, le-false}
 use Rattle.lists.proofs.Lists.{length-0, rest-is}
@@ -17,7 +18,6 @@ use Rattle.pending_ring.specs.Ring.{Ring}
 use Rattle.words_reading_events.specs.State.{State, after_u, after_t, read_on, ReadingHeld}
 use Rattle.words_reading_events.proofs.EventLaws.{size}
 use Rattle.words_reading_events.proofs.Stores.{take-3}
-use Rattle.words_reading.specs.declared.Reading.TheVariants.{Size}
 use Rattle.words_reading.specs.Read.{Read, refused, built, items, read_first, read, with_room, reading_answer, ReadPromise}
 
 all_drop : (P : ℕ → Type 0) (s : List ℕ) → All P s → All P (drop 1 s)
@@ -81,7 +81,7 @@ module _ (nx pv x0 x1 : List ℕ) (u h : ℕ) (t : State) (o : ReadingHeld nx pv
     pub room-gave : (n : ℕ) (c d : List ℕ) → n ≡ u → u ≤ length a → u ≤ length b
         → c ≡ cond (leb (length (take n x0)) (length a)) (take n x0 ++ drop (length (take n x0)) a) a
         → d ≡ cond (leb (length (take n x1)) (length b)) (take n x1 ++ drop (length (take n x1)) b) b
-        → ReadPromise (with_room (read_on [] t) (length a) (length b)) (Size u) a b c d
+        → ReadPromise (with_room (read_on [] t) (length a) (length b)) (Ok u) a b c d
     room-gave n c d e k l p q =
         rw (end-built g, le-true (length t.black) (length a) (omega (arith, long)), le-true (length t.black) (length b) (omega (arith, long)), long, o.blacks, o.whites)
         (refl, filled x0 a c (omega (arith, o.black_long)) k (rw e at p), filled x1 b d (omega (arith, o.white_long)) l (rw e at q))

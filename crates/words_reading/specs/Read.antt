@@ -1,14 +1,14 @@
--- What read word answers (document 01, "Read word"), and what it leaves in the two lent lists. The reading of the items after the first
+-- What read word answers, and what it leaves in the two lent lists. The reading of the items after the first
 -- (Read, items) stands in `words_reading_events`, Items, and is passed on here.
 --
---   Read                     a refusal with 01's number, or the diagram built
+--   Read                     a refusal with its number, or the diagram built
 --   items w pending s0 s1    the items after the first, one by one: 26, 23, 24, and 25 at the end (the state as in `spells`)
 --   read w                   21, then 22 for the first item, then its items
 --   reading_answer w a b         that, and 9 where a list with room for a (or b) entries is short
 --   ReadPromise ..           the promise: the answer's number or size, and the lists after it from the lists before it
-use Rattle.std.specs.Prelude.{◌≡◌, cond, List, [], ◌∷◌, ◌++◌, ℕ, zero, suc, leb, length, drop}
-use Rattle.words_reading.specs.declared.Reading.{Reading}
-use Rattle.words_reading.specs.declared.Reading.TheVariants.{Size, Refused}
+use Rattle.std.specs.Prelude.{◌≡◌, cond, List, [], ◌∷◌, ◌++◌, ℕ, zero, suc, leb, length, drop, Result, Ok}
+use Rattle.refusals.specs.declared.Refusal.{Refusal}
+use Rattle.refusals.specs.Numbers.{RefusedBy}
 pub use Rattle.words_reading_events.specs.Items.{Read, refused, built}
 unfoldable pub use Rattle.words_reading_events.specs.Items.{items}
 
@@ -30,9 +30,9 @@ unfoldable pub reading_answer : List ℕ → ℕ → ℕ → Read
 reading_answer w a b = with_room (read w) a b
 
 -- the lists s0 and s1 before, t0 and t1 after
-abbrev pub ReadPromise : Read → Reading → List ℕ → List ℕ → List ℕ → List ℕ → Type 0
-ReadPromise (refused k) r s0 s1 t0 t1 = (r ≡ Refused k) × (t0 ≡ s0) × (t1 ≡ s1)
+abbrev pub ReadPromise : Read → Result ℕ Refusal → List ℕ → List ℕ → List ℕ → List ℕ → Type 0
+ReadPromise (refused k) r s0 s1 t0 t1 = RefusedBy k r × (t0 ≡ s0) × (t1 ≡ s1)
 ReadPromise (built D) r s0 s1 t0 t1 =
-    (r ≡ Size (length D.black))
+    (r ≡ Ok (length D.black))
     × (t0 ≡ D.black ++ drop (length D.black) s0)
     × (t1 ≡ D.white ++ drop (length D.black) s1)

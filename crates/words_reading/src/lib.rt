@@ -1,4 +1,4 @@
-// Reading a word: the diagram that it spells, or the number of the refusal (document 01, "Read word").
+// Reading a word: the diagram that it spells, or the refusal.
 // The items are read one by one into two local arrays; the lent lists are written only when the whole word is known to be good
 // and both lists to have room.
 #![tactic(auto)]
@@ -10,14 +10,10 @@ ghost use Rattle.words_reading_events.specs.State.{State, after_u, after_t, read
 
 use diagrams::Diagram;
 use lists::{fill, to_index};
-use words_reading_events::{Step, add_alone, add_triple, close_alone, join_pending, push_two};
-
-// The size of the diagram that was written, or the number of the refusal.
-#[derive(Drop)]
-pub enum Reading {
-    Size(u16),
-    Refused(u16),
-}
+use refusals::Refusal;
+use words_reading_events::{
+    LabelCounts, add_alone, add_triple, close_alone, join_pending, push_two,
+};
 
 // U: the root is alone on its black vertex.
 fn start_alone(
@@ -25,13 +21,14 @@ fn start_alone(
     prev: &mut [u16; 1025],
     x0: &mut [u16; Diagram::MAX_SIZE],
     x1: &mut [u16; Diagram::MAX_SIZE],
-)
+) -> LabelCounts
     requires { Ring next.old prev.old [] × (length x0.old ≡ 1024) × (length x1.old ≡ 1024) }
-    ensures { ReadingHeld next.new prev.new x0.new x1.new 1 1 after_u }
+    ensures { ReadingHeld next.new prev.new x0.new x1.new result.used result.height after_u }
 {
     x0[0] = 1;
     x1[0] = 1;
     pending_ring::push(next, prev, 1);
+    LabelCounts { used: 1, height: 1 }
 }
 
 // T: the root's black vertex is 1, 2, 3.
@@ -40,9 +37,9 @@ fn start_triple(
     prev: &mut [u16; 1025],
     x0: &mut [u16; Diagram::MAX_SIZE],
     x1: &mut [u16; Diagram::MAX_SIZE],
-)
+) -> LabelCounts
     requires { Ring next.old prev.old [] × (length x0.old ≡ 1024) × (length x1.old ≡ 1024) }
-    ensures { ReadingHeld next.new prev.new x0.new x1.new 3 3 after_t }
+    ensures { ReadingHeld next.new prev.new x0.new x1.new result.used result.height after_t }
 {
     x0[0] = 2;
     x0[1] = 3;
@@ -52,6 +49,7 @@ fn start_triple(
     x1[2] = 3;
     pending_ring::push(next, prev, 1);
     push_two(next, prev, 2);
+    LabelCounts { used: 3, height: 3 }
 }
 
 // One item after the first.
@@ -61,22 +59,25 @@ fn event(
     x0: &mut [u16; Diagram::MAX_SIZE],
     x1: &mut [u16; Diagram::MAX_SIZE],
     item: u16,
-    used: u16,
-    height: u16,
-) -> Step
-    requires { (t : State) × ReadingHeld next.old prev.old x0.old x1.old used height t }
-    ensures { (t : State) → ReadingHeld next.old prev.old x0.old x1.old used height t → (w : List ℕ)
+    counts: LabelCounts,
+) -> Result<LabelCounts, Refusal>
+    requires { (t : State) × ReadingHeld next.old prev.old x0.old x1.old counts.used counts.height t }
+    ensures { (t : State) → ReadingHeld next.old prev.old x0.old x1.old counts.used counts.height t → (w : List ℕ)
         → ReadingAfter (read_on (item ∷ w) t) w result next.new prev.new x0.new x1.new }
 {
-    if height == 0 {
-        return Step::Refused(26);
+    if counts.height == 0 {
+        return Err(Refusal::NoEdgePending);
     }
     let k = pending_ring::pop(next, prev);
+    let left = LabelCounts {
+        used: counts.used,
+        height: counts.height - 1,
+    };
     match item {
-        0 => close_alone(used, height - 1),
-        1 => add_triple(next, prev, x0, x1, k, used, height - 1),
-        2 => add_alone(x0, x1, k, used, height - 1),
-        _ => join_pending(next, prev, x1, k, item - 3, used, height - 1),
+        0 => close_alone(left),
+        1 => add_triple(next, prev, x0, x1, k, left),
+        2 => add_alone(x0, x1, k, left),
+        _ => join_pending(next, prev, x1, k, item - 3, left),
     }
 }
 
@@ -87,30 +88,16 @@ fn events(
     prev: &mut [u16; 1025],
     x0: &mut [u16; Diagram::MAX_SIZE],
     x1: &mut [u16; Diagram::MAX_SIZE],
-    used: u16,
-    height: u16,
-) -> Step
-    requires { (t : State) × ReadingHeld next.old prev.old x0.old x1.old used height t }
-    ensures { (t : State) → ReadingHeld next.old prev.old x0.old x1.old used height t
+    mut counts: LabelCounts,
+) -> Result<LabelCounts, Refusal>
+    requires { (t : State) × ReadingHeld next.old prev.old x0.old x1.old counts.used counts.height t }
+    ensures { (t : State) → ReadingHeld next.old prev.old x0.old x1.old counts.used counts.height t
         → ReadingAfter (read_on rest.now t) [] result next.new prev.new x0.new x1.new }
 {
-    let mut u = used;
-    let mut h = height;
-    let mut i: usize = 0;
-    while i < rest.len() {
-        let step = event(next, prev, x0, x1, rest[i], u, h);
-        match step {
-            Step::Refused(n) => {
-                return Step::Refused(n);
-            }
-            Step::Next { used, height } => {
-                u = used;
-                h = height;
-            }
-        }
-        i += 1;
+    for &item in rest {
+        counts = event(next, prev, x0, x1, item, counts)?;
     }
-    Step::Next { used: u, height: h }
+    Ok(counts)
 }
 
 // All items of a word that has one.
@@ -120,65 +107,62 @@ fn spelled(
     prev: &mut [u16; 1025],
     x0: &mut [u16; Diagram::MAX_SIZE],
     x1: &mut [u16; Diagram::MAX_SIZE],
-) -> Step
+) -> Result<LabelCounts, Refusal>
     requires word_nonzero { 0 < length word.now }
     requires ring { Ring next.old prev.old [] × (length x0.old ≡ 1024) × (length x1.old ≡ 1024) }
     ensures { ReadingAfter (read_first word.now) [] result next.new prev.new x0.new x1.new }
 {
-    let first = word[0];
-    match first {
-        0 => {
-            start_alone(next, prev, x0, x1);
-            events(&word[1..], next, prev, x0, x1, 1, 1)
-        }
-        1 => {
-            start_triple(next, prev, x0, x1);
-            events(&word[1..], next, prev, x0, x1, 3, 3)
-        }
-        _ => Step::Refused(22),
-    }
+    let counts = match word[0] {
+        0 => start_alone(next, prev, x0, x1),
+        1 => start_triple(next, prev, x0, x1),
+        _ => return Err(Refusal::FirstItem),
+    };
+    events(&word[1..], next, prev, x0, x1, counts)
 }
 
 // The end of the items: nothing may be pending, both lists must have room, and then they are written.
-fn finish(used: u16, height: u16, x0: &[u16], x1: &[u16], s0: &mut [u16], s1: &mut [u16]) -> Reading
-    requires { (nx pv : List ℕ) × (t : State) × ReadingHeld nx pv x0.now x1.now used height t }
-    ensures { (nx pv : List ℕ) (t : State) → ReadingHeld nx pv x0.now x1.now used height t
+fn finish(
+    counts: LabelCounts,
+    x0: &[u16],
+    x1: &[u16],
+    s0: &mut [u16],
+    s1: &mut [u16],
+) -> Result<u16, Refusal>
+    requires { (nx pv : List ℕ) × (t : State) × ReadingHeld nx pv x0.now x1.now counts.used counts.height t }
+    ensures { (nx pv : List ℕ) (t : State) → ReadingHeld nx pv x0.now x1.now counts.used counts.height t
         → ReadPromise (with_room (read_on [] t) (length s0.old) (length s1.old)) result s0.old s1.old s0.new s1.new }
 {
-    if height != 0 {
-        return Reading::Refused(25);
+    if counts.height != 0 {
+        return Err(Refusal::EdgesPending);
     }
-    let n = to_index(used);
+    let n = to_index(counts.used);
     if s0.len() < n {
-        return Reading::Refused(9);
+        return Err(Refusal::ListShort);
     }
     if s1.len() < n {
-        return Reading::Refused(9);
+        return Err(Refusal::ListShort);
     }
     fill(s0, &x0[..n]);
     fill(s1, &x1[..n]);
-    Reading::Size(used)
+    Ok(counts.used)
 }
 
 // Reads a word: 21 empty or above 1,025 items; then item by item 26 an item after the stack has emptied, 22 a first item that is
 // not 0 or 1, 23 Jd with d not below the stack's height after the pop, 24 a label above 1,024; at the end 25 edges pending,
 // and 9 a list is short. Accepted, the diagram's lists stand in the first places of s0 and s1, and its size is returned.
-pub fn read_word(word: &[u16], s0: &mut [u16], s1: &mut [u16]) -> Reading
+pub fn read_word(word: &[u16], s0: &mut [u16], s1: &mut [u16]) -> Result<u16, Refusal>
     ensures { ReadPromise (reading_answer word.now (length s0.old) (length s1.old)) result s0.old s1.old s0.new s1.new }
 {
     if word.len() == 0 {
-        return Reading::Refused(21);
+        return Err(Refusal::WordLength);
     }
     if Diagram::MAX_SIZE + 1 < word.len() {
-        return Reading::Refused(21);
+        return Err(Refusal::WordLength);
     }
     let mut next: [u16; 1025] = [0; 1025];
     let mut prev: [u16; 1025] = [0; 1025];
     let mut x0: [u16; Diagram::MAX_SIZE] = [0; Diagram::MAX_SIZE];
     let mut x1: [u16; Diagram::MAX_SIZE] = [0; Diagram::MAX_SIZE];
-    let last = spelled(word, &mut next, &mut prev, &mut x0, &mut x1);
-    match last {
-        Step::Refused(n) => Reading::Refused(n),
-        Step::Next { used, height } => finish(used, height, &x0, &x1, s0, s1),
-    }
+    let counts = spelled(word, &mut next, &mut prev, &mut x0, &mut x1)?;
+    finish(counts, &x0, &x1, s0, s1)
 }

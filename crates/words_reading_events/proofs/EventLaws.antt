@@ -6,13 +6,13 @@ use native.Mathlib.Numerals.{add-one}
 use native.Mathlib.Omega.{arith}
 use lib.ListN.{length, get_or, set, length-set}
 use lib.Seq.{length-take-le, take-suc-set}
+use Rattle.std.specs.Prelude.{Ok}
 use Rattle.lists.specs.Lists.{Has, find, remove_at, put}
 use Rattle.lists.specs.Ranges.{OneTo}
 use Rattle.lists.proofs.Tests.{le-true, le-false, lt-true, lt-false}
 use Rattle.lists.proofs.Lists.{has_get_d, find-get_or, all-remove_at, all_map, all-has, length-remove_at, length-put}
 use Rattle.pending_ring.specs.Ring.{Ring}
 use Rattle.pending_ring.proofs.Laws.{ring-labels}
-use Rattle.words_reading_events.specs.declared.Step.TheVariants.{Next}
 use Rattle.words_reading_events.specs.Items.{refused, items}
 use Rattle.words_reading_events.specs.State.{State, ReadingHeld, ReadingAfter, three_black, three_white}
 use Rattle.words_reading_events.proofs.Stores.{take-3, take_put}
@@ -50,7 +50,7 @@ module _ (nx pv x0 x1 : List ℕ) (u h : ℕ) (t : State) (o : ReadingHeld nx pv
 
   pub triple-stands : (k : ℕ) (w : List ℕ) (mx pw y0 y1 : List ℕ) → OneTo u k → u + 3 ≤ 1024 → y0 ≡ three_black x0 u → y1 ≡ three_white x1 k u
       → Ring mx pw (((u + 2) + 1) ∷ (u + 2) ∷ t.stack)
-      → ReadingAfter (items (1 ∷ w) (k ∷ t.stack) t.black t.white) w (Next (u + 3) (h + 2)) mx pw y0 y1
+      → ReadingAfter (items (1 ∷ w) (k ∷ t.stack) t.black t.white) w (Ok record { used = u + 3; height = h + 2 }) mx pw y0 y1
   unfolding items
   triple-stands k w mx pw y0 y1 e g p q r = (
     record {
@@ -80,7 +80,7 @@ module _ (nx pv x0 x1 : List ℕ) (u h : ℕ) (t : State) (o : ReadingHeld nx pv
   alone-refused k w g = rw (le-false (suc (length t.black)) 1024 (omega (arith, size)))
 
   pub alone-stands : (k : ℕ) (w : List ℕ) (i : ℕ) (y1 : List ℕ) → OneTo u k → u + 1 ≤ 1024 → i ≡ u → y1 ≡ put (put x1 k (u + 1)) (u + 1) k
-      → ReadingAfter (items (2 ∷ w) (k ∷ t.stack) t.black t.white) w (Next (u + 1) h) nx pv (set x0 i (u + 1)) y1
+      → ReadingAfter (items (2 ∷ w) (k ∷ t.stack) t.black t.white) w (Ok record { used = u + 1; height = h }) nx pv (set x0 i (u + 1)) y1
   unfolding items
   alone-stands k w i y1 e g p q = (
     record { stack = t.stack; black = t.black ++ (suc (length t.black) ∷ []); white = put t.white k (suc (length t.black)) ++ (k ∷ []) },
@@ -107,7 +107,7 @@ module _ (nx pv x0 x1 : List ℕ) (u h : ℕ) (t : State) (o : ReadingHeld nx pv
 
   pub join_stands : (k d p : ℕ) (w : List ℕ) (mx pw y1 : List ℕ) → OneTo u k → d < h → p ≡ get_or t.stack d 0 → y1 ≡ put (put x1 k p) p k
       → Ring mx pw (remove_at (find p t.stack) t.stack)
-      → ReadingAfter (items (suc (suc (suc d)) ∷ w) (k ∷ t.stack) t.black t.white) w (Next u (h - 1)) mx pw x0 y1
+      → ReadingAfter (items (suc (suc (suc d)) ∷ w) (k ∷ t.stack) t.black t.white) w (Ok record { used = u; height = h - 1 }) mx pw x0 y1
   unfolding items
   join_stands k d p w mx pw y1 e g f q r =
       let l : d < length t.stack = omega (arith, o.high) in

@@ -1,6 +1,6 @@
--- What the items of a word after the first are read as (document 01, "Read word").
+-- What the items of a word after the first are read as.
 --
---   Read                     a refusal with 01's number, or the diagram built
+--   Read                     a refusal with its number, or the diagram built
 --   items w pending s0 s1    the items after the first, one by one: 26, 23, 24, and 25 at the end (the state as in `spells`)
 use Rattle.std.specs.Prelude.{cond, List, [], ◌∷◌, ◌++◌, ℕ, zero, suc, leb, ltb, length, get_or}
 use Rattle.lists.specs.Lists.{put, remove_at}

@@ -8,12 +8,13 @@
 --                            it is what the items w, which are still to be read, give from a state that the arrays hold
 --   three_black x u           the array x with three labels more after the first u, on a black vertex
 --   three_white x k u         the same of the white partners: the first of the three is that of k, the others are their own for now
-use Rattle.std.specs.Prelude.{◌≡◌, List, [], ◌∷◌, ℕ, ◌+◌, ◌≤◌, length, set, take}
+use Rattle.std.specs.Prelude.{◌≡◌, List, [], ◌∷◌, ℕ, ◌+◌, ◌≤◌, length, set, take, Result, Ok, Err}
 use Rattle.lists.specs.Lists.{All, put}
 use Rattle.pending_ring.specs.Ring.{Ring}
+use Rattle.refusals.specs.declared.Refusal.{Refusal}
+use Rattle.refusals.specs.Numbers.{number}
 use Rattle.words_reading_events.specs.Items.{Read, refused, items}
-use Rattle.words_reading_events.specs.declared.Step.{Step}
-use Rattle.words_reading_events.specs.declared.Step.TheVariants.{Next, Refused}
+use Rattle.words_reading_events.specs.declared.LabelCounts.{LabelCounts}
 
 pub record State : Type 0 where
   pub stack : List ℕ
@@ -40,9 +41,9 @@ pub record ReadingHeld (nx pv x0 x1 : List ℕ) (used height : ℕ) (t : State) 
   pub blacks : t.black ≡ take used x0
   pub whites : t.white ≡ take used x1
 
-abbrev pub ReadingAfter : Read → List ℕ → Step → List ℕ → List ℕ → List ℕ → List ℕ → Type 0
-ReadingAfter q w (Next used height) nx pv x0 x1 = (t : State) × ReadingHeld nx pv x0 x1 used height t × (q ≡ read_on w t)
-ReadingAfter q w (Refused k) nx pv x0 x1 = q ≡ refused k
+abbrev pub ReadingAfter : Read → List ℕ → Result LabelCounts Refusal → List ℕ → List ℕ → List ℕ → List ℕ → Type 0
+ReadingAfter q w (Ok m) nx pv x0 x1 = (t : State) × ReadingHeld nx pv x0 x1 m.used m.height t × (q ≡ read_on w t)
+ReadingAfter q w (Err e) nx pv x0 x1 = q ≡ refused (number e)
 
 abbrev pub three_black : List ℕ → ℕ → List ℕ
 three_black x u = set (set (set x u (u + 2)) (u + 1) (u + 3)) (u + 2) (u + 1)

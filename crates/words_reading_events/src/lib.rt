@@ -1,4 +1,4 @@
-// The events of reading a word (document 01, "Read word"): what an item makes of the label that was popped. The labels given so far stand
+// The events of reading a word: what an item makes of the label that was popped. The labels given so far stand
 // in two arrays, the pending ones in a ring; an event that is refused changes neither.
 #![tactic(auto)]
 
@@ -11,19 +11,20 @@ ghost use Rattle.words_reading_events.specs.State.{State, ReadingHeld, ReadingAf
 
 use diagrams::Diagram;
 use lists::{pair, to_index};
+use refusals::Refusal;
 
-// What an item leads to: how many labels are given and how many of them pending, or a refusal.
-#[derive(Drop)]
-pub enum Step {
-    Next { used: u16, height: u16 },
-    Refused(u16),
+// How many labels are given, and how many of them are pending.
+#[derive(Clone, Copy)]
+pub struct LabelCounts {
+    pub used: u16,
+    pub height: u16,
 }
 
 // W: the label that was popped is its own white partner, as the list has it already.
-pub fn close_alone(used: u16, height: u16) -> Step
-    ensures { result ≡ Step.Next used height }
+pub fn close_alone(counts: LabelCounts) -> Result<LabelCounts, Refusal>
+    ensures { result ≡ Ok counts }
 {
-    Step::Next { used, height }
+    Ok(counts)
 }
 
 // The two labels from l on, pushed one after the other.
@@ -62,23 +63,23 @@ pub fn add_triple(
     x0: &mut [u16; Diagram::MAX_SIZE],
     x1: &mut [u16; Diagram::MAX_SIZE],
     k: u16,
-    used: u16,
-    height: u16,
-) -> Step
-    requires one_to { OneTo used k }
-    requires reading_held { (t : State) × ReadingHeld next.old prev.old x0.old x1.old used height t }
-    ensures { (t : State) → ReadingHeld next.old prev.old x0.old x1.old used height t → (w : List ℕ)
+    counts: LabelCounts,
+) -> Result<LabelCounts, Refusal>
+    requires one_to { OneTo counts.used k }
+    requires reading_held { (t : State) × ReadingHeld next.old prev.old x0.old x1.old counts.used counts.height t }
+    ensures { (t : State) → ReadingHeld next.old prev.old x0.old x1.old counts.used counts.height t → (w : List ℕ)
         → ReadingAfter (items (1 ∷ w) (k ∷ t.stack) t.black t.white) w result next.new prev.new x0.new x1.new }
 {
+    let used = counts.used;
     if (Diagram::MAX_SIZE as u16) < used + 3 {
-        return Step::Refused(24);
+        return Err(Refusal::LabelTooLarge);
     }
     give_three(x0, x1, k, used);
     push_two(next, prev, used + 2);
-    Step::Next {
+    Ok(LabelCounts {
         used: used + 3,
-        height: height + 2,
-    }
+        height: counts.height + 2,
+    })
 }
 
 // B: the partner of k is the next free label, alone on its black vertex.
@@ -86,24 +87,24 @@ pub fn add_alone(
     x0: &mut [u16; Diagram::MAX_SIZE],
     x1: &mut [u16; Diagram::MAX_SIZE],
     k: u16,
-    used: u16,
-    height: u16,
-) -> Step
-    requires one_to { OneTo used k }
-    requires by_index { (nx pv : List ℕ) × (t : State) × ReadingHeld nx pv x0.old x1.old used height t }
-    ensures { (nx pv : List ℕ) (t : State) → ReadingHeld nx pv x0.old x1.old used height t → (w : List ℕ)
+    counts: LabelCounts,
+) -> Result<LabelCounts, Refusal>
+    requires one_to { OneTo counts.used k }
+    requires by_index { (nx pv : List ℕ) × (t : State) × ReadingHeld nx pv x0.old x1.old counts.used counts.height t }
+    ensures { (nx pv : List ℕ) (t : State) → ReadingHeld nx pv x0.old x1.old counts.used counts.height t → (w : List ℕ)
         → ReadingAfter (items (2 ∷ w) (k ∷ t.stack) t.black t.white) w result nx pv x0.new x1.new }
 {
+    let used = counts.used;
     if (Diagram::MAX_SIZE as u16) < used + 1 {
-        return Step::Refused(24);
+        return Err(Refusal::LabelTooLarge);
     }
     let place = to_index(used);
     x0[place] = used + 1;
     pair(x1, k, used + 1);
-    Step::Next {
+    Ok(LabelCounts {
         used: used + 1,
-        height,
-    }
+        height: counts.height,
+    })
 }
 
 // Jd: the partner of k is the pending label d places below the top; it is taken out.
@@ -113,22 +114,21 @@ pub fn join_pending(
     x1: &mut [u16; Diagram::MAX_SIZE],
     k: u16,
     d: u16,
-    used: u16,
-    height: u16,
-) -> Step
-    requires one_to { OneTo used k }
-    requires by_index { (x0 : List ℕ) × (t : State) × ReadingHeld next.old prev.old x0 x1.old used height t }
-    ensures { (x0 : List ℕ) (t : State) → ReadingHeld next.old prev.old x0 x1.old used height t → (w : List ℕ)
+    counts: LabelCounts,
+) -> Result<LabelCounts, Refusal>
+    requires one_to { OneTo counts.used k }
+    requires by_index { (x0 : List ℕ) × (t : State) × ReadingHeld next.old prev.old x0 x1.old counts.used counts.height t }
+    ensures { (x0 : List ℕ) (t : State) → ReadingHeld next.old prev.old x0 x1.old counts.used counts.height t → (w : List ℕ)
         → ReadingAfter (items (suc (suc (suc d)) ∷ w) (k ∷ t.stack) t.black t.white) w result next.new prev.new x0 x1.new }
 {
-    if height <= d {
-        return Step::Refused(23);
+    if counts.height <= d {
+        return Err(Refusal::JoinTooDeep);
     }
-    let p = pending_ring::label_below(next, prev, to_index(d), to_index(height));
+    let p = pending_ring::label_below(next, prev, to_index(d), to_index(counts.height));
     pending_ring::unhook(next, prev, p);
     pair(x1, k, p);
-    Step::Next {
-        used,
-        height: height - 1,
-    }
+    Ok(LabelCounts {
+        used: counts.used,
+        height: counts.height - 1,
+    })
 }

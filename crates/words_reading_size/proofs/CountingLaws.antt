@@ -8,14 +8,16 @@ use native.Mathlib.Omega.{arith}
 use lib.Dec.{leb, ltb}
 use lib.ListN.{length, get_or, drop, length-drop}
 use lib.Seq.{drop-cons}
+use Rattle.std.specs.Prelude.{Result, Ok, Err}
 use Rattle.lists.specs.Lists.{put, remove_at}
 use Rattle.lists.proofs.Tests.{le-true, leb-true, ltb-true}
 use Rattle.lists.proofs.Lists.{length-0, length-1, length-3, length-remove_at}
-use Rattle.words_reading_events.specs.declared.Step.{Step}
-use Rattle.words_reading_events.specs.declared.Step.TheVariants.{Next, Refused}
+use Rattle.refusals.specs.declared.Refusal.{Refusal}
+use Rattle.refusals.specs.declared.Refusal.TheVariants as refusal
+use Rattle.refusals.specs.Numbers.{number}
+use Rattle.words_reading_events.specs.declared.LabelCounts.{LabelCounts}
 use Rattle.words_reading_events.specs.Items.{Read, refused, items}
 use Rattle.words_reading_events.specs.State.{State, after_u, after_t, read_on}
-use Rattle.words_reading.specs.declared.Reading.TheVariants.{Size}
 use Rattle.words_reading.proofs.ReadingLaws.{popped}
 use Rattle.words_reading_size.specs.Counting.{SizePromise, Counts, CountedAfter}
 
@@ -44,10 +46,10 @@ joined d t =
     record { stack = remove_at d (drop 1 t.stack); black = t.black; white = put (put t.white k p) p k }
 
 -- a test decides whether the item leads to the state s or is refused, and the code has asked the same test
-decided : (q : Read) (w : List ℕ) (s : State) (u h n : ℕ) (b : Bool) (r : Step) → q ≡ cond b (read_on w s) (refused n) → (b ≡ true → Counts u h s)
-    → r ≡ cond b (Next u h) (Refused n) → CountedAfter q w r
-decided q w s u h n true r e C f = rw f (s, C refl, e)
-decided q w s u h n false r e C f = rw f e
+decided : (q : Read) (w : List ℕ) (s : State) (u h : ℕ) (x : Refusal) (b : Bool) (r : Result LabelCounts Refusal)
+    → q ≡ cond b (read_on w s) (refused (number x)) → (b ≡ true → Counts u h s) → r ≡ cond b (Ok record { used = u; height = h }) (Err x) → CountedAfter q w r
+decided q w s u h x true r e C f = rw f (s, C refl, e)
+decided q w s u h x false r e C f = rw f e
 
 module _ (used height : ℕ) (t : State) (o : Counts used height t) where
   -- ---- one item
@@ -75,7 +77,7 @@ module _ (used height : ℕ) (t : State) (o : Counts used height t) where
     unfolding items
     reads-W w = met 0 w ∙ refl
 
-    pub counts-W : (w : List ℕ) (r : Step) → r ≡ cond (leb (used + 0) 1024) (Next (used + 0) (height - 1)) (Refused 24)
+    pub counts-W : (w : List ℕ) (r : Result LabelCounts Refusal) → r ≡ cond (leb (used + 0) 1024) (Ok record { used = used + 0; height = height - 1 }) (Err refusal.LabelTooLarge)
         → CountedAfter (read_on (0 ∷ w) t) w r
     counts-W w r e = rw (e, le-true (used + 0) 1024 (omega (arith, o.room))) (popped t, counts, reads-W w)
       where
@@ -87,9 +89,9 @@ module _ (used height : ℕ) (t : State) (o : Counts used height t) where
     unfolding items
     reads-F w = met 1 w ∙ rw three
 
-    pub counts-F : (w : List ℕ) (r : Step) → r ≡ cond (leb (used + 3) 1024) (Next (used + 3) (height + 1)) (Refused 24)
+    pub counts-F : (w : List ℕ) (r : Result LabelCounts Refusal) → r ≡ cond (leb (used + 3) 1024) (Ok record { used = used + 3; height = height + 1 }) (Err refusal.LabelTooLarge)
         → CountedAfter (read_on (1 ∷ w) t) w r
-    counts-F w r = decided _ w (tripled t) (used + 3) (height + 1) 24 (leb (used + 3) 1024) r (reads-F w) counts
+    counts-F w r = decided _ w (tripled t) (used + 3) (height + 1) refusal.LabelTooLarge (leb (used + 3) 1024) r (reads-F w) counts
       where
         counts : leb (used + 3) 1024 ≡ true → Counts (used + 3) (height + 1) (tripled t)
         counts b = record {
@@ -104,9 +106,9 @@ module _ (used height : ℕ) (t : State) (o : Counts used height t) where
     unfolding items
     reads-B w = met 2 w ∙ rw one
 
-    pub counts-B : (w : List ℕ) (r : Step) → r ≡ cond (leb (used + 1) 1024) (Next (used + 1) (height - 1)) (Refused 24)
+    pub counts-B : (w : List ℕ) (r : Result LabelCounts Refusal) → r ≡ cond (leb (used + 1) 1024) (Ok record { used = used + 1; height = height - 1 }) (Err refusal.LabelTooLarge)
         → CountedAfter (read_on (2 ∷ w) t) w r
-    counts-B w r = decided _ w (extended t) (used + 1) (height - 1) 24 (leb (used + 1) 1024) r (reads-B w) counts
+    counts-B w r = decided _ w (extended t) (used + 1) (height - 1) refusal.LabelTooLarge (leb (used + 1) 1024) r (reads-B w) counts
       where
         counts : leb (used + 1) 1024 ≡ true → Counts (used + 1) (height - 1) (extended t)
         counts b = record { given = rw length-1 one; pending = below; within = omega (arith, o.within); room = leb-true (used + 1) 1024 b }
@@ -116,9 +118,9 @@ module _ (used height : ℕ) (t : State) (o : Counts used height t) where
     unfolding items
     reads-J d w = met (suc (suc (suc d))) w ∙ rw below
 
-    pub counts-J : (d : ℕ) (w : List ℕ) (r : Step) → r ≡ cond (ltb d (height - 1)) (Next used ((height - 1) - 1)) (Refused 23)
+    pub counts-J : (d : ℕ) (w : List ℕ) (r : Result LabelCounts Refusal) → r ≡ cond (ltb d (height - 1)) (Ok record { used = used; height = (height - 1) - 1 }) (Err refusal.JoinTooDeep)
         → CountedAfter (read_on (suc (suc (suc d)) ∷ w) t) w r
-    counts-J d w r = decided _ w (joined d t) used ((height - 1) - 1) 23 (ltb d (height - 1)) r (reads-J d w) counts
+    counts-J d w r = decided _ w (joined d t) used ((height - 1) - 1) refusal.JoinTooDeep (ltb d (height - 1)) r (reads-J d w) counts
       where
         counts : ltb d (height - 1) ≡ true → Counts used ((height - 1) - 1) (joined d t)
         counts b =
@@ -131,9 +133,9 @@ module _ (used height : ℕ) (t : State) (o : Counts used height t) where
   unfolding items
   end_refused g = rw (drop-cons t.stack 0 0 (omega (arith, o.pending)))
 
-  pub end-sized : height ≡ 0 → SizePromise (read_on [] t) (Size used)
+  pub end-sized : height ≡ 0 → SizePromise (read_on [] t) (Ok used)
   unfolding items
-  end-sized g = rw (length-0 t.stack (sym o.pending ∙ g)) (ap Size o.given)
+  end-sized g = rw (length-0 t.stack (sym o.pending ∙ g)) (ap Ok o.given)
 
 -- ---- the first item
 

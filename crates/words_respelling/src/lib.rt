@@ -35,19 +35,16 @@ fn add_events(
     popped: &mut [u16; 64],
     s0: &mut [u16; 64],
     s1: &mut [u16; 64],
-    marks: LabelCounts,
+    mut marks: LabelCounts,
 ) -> LabelCounts
     requires { (1 ≤ from) × (from ≤ length word.now) × ListedWord word.now
         × SpelledSoFar (take from word.now) stack.old popped.old s0.old s1.old marks.used marks.height }
     ensures { SpelledSoFar word.now stack.new popped.new s0.new s1.new result.used result.height }
 {
-    let mut m = marks;
-    let mut i = from;
-    while i < word.len() {
-        m = add_event(word[i], i, stack, popped, s0, s1, m);
-        i += 1;
+    for i in from..word.len() {
+        marks = add_event(word[i], i, stack, popped, s0, s1, marks);
     }
-    m
+    marks
 }
 
 // The spelling of a word from nothing.

@@ -15,11 +15,7 @@ fn insert_at(stack: &mut [u16; 64], place: usize, height: usize, p: u16)
     requires { (place ≤ height) × (height < 64) × (length stack.old ≡ 64) }
     ensures { Shifted stack.new stack.old place height × (get_or stack.new place 0 ≡ p) }
 {
-    let mut i = height;
-    while place < i {
-        stack[i] = stack[i - 1];
-        i -= 1;
-    }
+    stack.copy_within(place..height, place + 1);
     stack[place] = p;
 }
 

@@ -8,7 +8,7 @@ ghost use Rattle.words.specs.Outputs.{overwrite};
 ghost use Rattle.words_spelling_events.specs.States.{State};
 ghost use Rattle.words_spelling_events.specs.Spelling.{SpellingState};
 
-use words_spelling_events::{begin, event};
+use words_spelling_events::{LabelCounts, begin, event};
 
 // The events after the first item.
 fn events(
@@ -16,21 +16,14 @@ fn events(
     stack: &mut [u16; 64],
     s0: &mut [u16],
     s1: &mut [u16],
-    used: u16,
-    height: usize,
+    mut counts: LabelCounts,
 )
-    requires { (D : Pair) × (S : State) × (a0 a1 : List ℕ) × SpellingState D word.now S a0 a1 stack.old s0.old s1.old used height }
-    ensures { (D : Pair) (S : State) (a0 a1 : List ℕ) → SpellingState D word.now S a0 a1 stack.old s0.old s1.old used height
+    requires { (D : Pair) × (S : State) × (a0 a1 : List ℕ) × SpellingState D word.now S a0 a1 stack.old s0.old s1.old counts.used counts.height }
+    ensures { (D : Pair) (S : State) (a0 a1 : List ℕ) → SpellingState D word.now S a0 a1 stack.old s0.old s1.old counts.used counts.height
         → (s0.new ≡ overwrite D.black a0) × (s1.new ≡ overwrite D.white a1) }
 {
-    let mut u = used;
-    let mut h = height;
-    let mut i: usize = 0;
-    while i < word.len() {
-        let marks = event(stack, s0, s1, word[i], u, h);
-        u = marks.used;
-        h = marks.height;
-        i += 1;
+    for &item in word {
+        counts = event(stack, s0, s1, item, counts.used, counts.height);
     }
 }
 
@@ -40,6 +33,6 @@ pub fn write_diagram(word: &[u16], s0: &mut [u16], s1: &mut [u16])
     ensures { (D : Pair) → spell word.now ≡ some D → (s0.new ≡ overwrite D.black s0.old) × (s1.new ≡ overwrite D.white s1.old) }
 {
     let mut stack = [0u16; 64];
-    let marks = begin(&mut stack, s0, s1, word[0]);
-    events(&word[1..], &mut stack, s0, s1, marks.used, marks.height)
+    let counts = begin(&mut stack, s0, s1, word[0]);
+    events(&word[1..], &mut stack, s0, s1, counts)
 }

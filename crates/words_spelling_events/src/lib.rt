@@ -12,7 +12,7 @@ use lists::to_index;
 use words_spelling_stores::{add_alone, add_triple, join_pending, write_three};
 
 // How many labels are given, and how many of them are pending.
-#[derive(Drop)]
+#[derive(Clone, Copy)]
 pub struct LabelCounts {
     pub used: u16,
     pub height: usize,

@@ -6,6 +6,12 @@ use mathlib.Core.List.{List}
 use Prim.Native.Nat.{ℕ, suc}
 use lib.Dec.{leb}
 use lib.ListN.{length}
+use Rattle.std.specs.Prelude.{Ok, Err}
+use Rattle.refusals.specs.declared.Refusal.{Refusal}
+use Rattle.refusals.specs.declared.Refusal.TheVariants as refusal
+use Rattle.refusals.specs.Numbers.{number}
+use Rattle.refusals.specs.Named.{named}
+use Rattle.refusals.proofs.Numbers.{number-one}
 use Rattle.lists.specs.Ranges.{OneTo}
 use Rattle.lists.proofs.Tests.{le-true, le-false}
 use Rattle.words.specs.Outputs.{Short, Written, Untouched}
@@ -15,8 +21,7 @@ use Rattle.listing.specs.Position.{word_at}
 use Rattle.listing.specs.Diagrams.{diagram_at}
 use Rattle.listing_ranking.specs.Promises.{RefusedAt}
 use Rattle.book.specs.declared.types.Book.{Book}
-use Rattle.book.specs.declared.types.Taking.TheVariants as taking
-use Rattle.book_standing.specs.declared.Asked.TheVariants as asked
+use Rattle.book.specs.declared.types.Taken.{Taken}
 use Rattle.book.specs.Shares.{next, holder}
 use Rattle.book.specs.Valid.{both}
 use Rattle.book.specs.Calls.{due, lists_hold, ticked, ticket_number, take_number, take_answer, take_book, take_list}
@@ -45,8 +50,8 @@ lists-hold-false n a0 a1 aw h = one-false (leb n (length a0)) (leb n (length a1)
 
 module _ (b : Book) (tick t : ℕ) where
   module _ (a0 a1 aw : List ℕ) {c0 c1 cw : List ℕ} (e : (rest : ℕ) → ticket_number b tick t rest ≡ rest) where
-    take_short : Short b.size a0 a1 aw → Untouched a0 a1 aw c0 c1 cw → TakePromise b tick t a0 a1 aw (taking.Refused 9) b c0 c1 cw
-    unfolding take_answer take_book take_list take_number
+    take_short : Short b.size a0 a1 aw → Untouched a0 a1 aw c0 c1 cw → TakePromise b tick t a0 a1 aw (Err refusal.ListShort) b c0 c1 cw
+    unfolding take_answer take_book take_list take_number named
     take_short s u = record {
       answered = rw (e _, lists-hold-false _ _ _ _ s);
       left = rw (e _, lists-hold-false _ _ _ _ s);
@@ -56,7 +61,7 @@ module _ (b : Book) (tick t : ℕ) where
     }
 
     take-given : ¬ Short b.size a0 a1 aw → Written (diagram_at b.size (next b (holder b t))) (word_at b.size (next b (holder b t))) a0 a1 aw c0 c1 cw
-        → TakePromise b tick t a0 a1 aw (taking.Given (holder b t) (next b (holder b t)) (length (word_at b.size (next b (holder b t))))) (ticked b tick) c0 c1 cw
+        → TakePromise b tick t a0 a1 aw (Ok (record { share = holder b t; position = next b (holder b t); length = length (word_at b.size (next b (holder b t))) })) (ticked b tick) c0 c1 cw
     unfolding take_answer take_book take_list take_number due
     take-given s w = record {
       answered = rw (e _, lists-hold-true _ _ _ _ s);
@@ -79,21 +84,21 @@ module _ (b : Book) (tick t : ℕ) where
     refused-9 a0 a1 aw k (inr (inr r)) = (r.0, r.3)
 
 -- the same of a share and a position that are the ticket's
-module _ (b : Book) (tick t n j p : ℕ) (e : b.size ≡ n) (a : AskPromise b tick t (asked.Share j)) (q : p ≡ next b j) (a0 a1 aw : List ℕ) {c0 c1 cw : List ℕ} where
-  refused-at : (k : ℕ) → RefusedAt n p a0 a1 aw k → Untouched a0 a1 aw c0 c1 cw → TakePromise b tick t a0 a1 aw (taking.Refused k) b c0 c1 cw
-  refused-at k r u =
-      let z = refused-9 b tick t (asked-good b tick t j a) a0 a1 aw k (rw (← e, q, a.0) at r) in
-      rw z.0 (take_short b tick t a0 a1 aw a.1 z.1 u)
+module _ (b : Book) (tick t n j p : ℕ) (e : b.size ≡ n) (a : AskPromise b tick t (Ok j)) (q : p ≡ next b j) (a0 a1 aw : List ℕ) {c0 c1 cw : List ℕ} where
+  refused-at : (r : Refusal) → RefusedAt n p a0 a1 aw (number r) → Untouched a0 a1 aw c0 c1 cw → TakePromise b tick t a0 a1 aw (Err r) b c0 c1 cw
+  refused-at r f u =
+      let z = refused-9 b tick t (asked-good b tick t j a) a0 a1 aw (number r) (rw (← e, q, a.0) at f) in
+      rw (number-one r refusal.ListShort z.0) (take_short b tick t a0 a1 aw a.1 z.1 u)
 
-  given-at : (m : ℕ) → ¬ Short n a0 a1 aw → m ≡ length (word_at n p) → Written (diagram_at n p) (word_at n p) a0 a1 aw c0 c1 cw → TakePromise b tick t a0 a1 aw (taking.Given j p m) (ticked b tick) c0 c1 cw
+  given-at : (m : ℕ) → ¬ Short n a0 a1 aw → m ≡ length (word_at n p) → Written (diagram_at n p) (word_at n p) a0 a1 aw c0 c1 cw → TakePromise b tick t a0 a1 aw (Ok (record { share = j; position = p; length = m })) (ticked b tick) c0 c1 cw
   given-at m s l w = rw (l, ← e, q, a.0) (take-given b tick t a0 a1 aw a.1 (rw (← e) at s) (rw (← e, q, a.0) at w))
 
-pub returns-in-Refused : goal.returns-in-Refused
-returns-in-Refused c =
-    let g = c.in-Refused.ensures in
+pub returns-in-Err : goal.returns-in-Err
+returns-in-Err c =
+    let g = c.in-Err.ensures in
     (λ b t e a q. refused-at b c.args.tick t _ _ _ e a q c.args.s0.now c.args.s1.now c.args.word.now _ g.0 g.1, tt)
 
-pub returns-in-Length : goal.returns-in-Length
-returns-in-Length c =
-    let g = c.in-Length.ensures in
+pub returns-in-Ok : goal.returns-in-Ok
+returns-in-Ok c =
+    let g = c.in-Ok.ensures in
     (λ b t e a q. given-at b c.args.tick t _ _ _ e a q c.args.s0.now c.args.s1.now c.args.word.now _ g.2 g.3 g.4, tt)

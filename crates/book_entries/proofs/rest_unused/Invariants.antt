@@ -9,6 +9,3 @@ use Rattle.book_entries.proofs.rest_unused.Given as goal
 
 abbrev pub invariant-loop-i : goal.invariant-loop-i
 invariant-loop-i l = (l.k ≤ l.i) × (l.i ≤ 32) × (eqb l.any 0 ≡ unused_to l.next l.ticket l.expiry l.k l.i)
-
-abbrev pub decreases-loop-i : goal.decreases-loop-i
-decreases-loop-i l = 32 - l.i

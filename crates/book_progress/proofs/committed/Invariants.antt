@@ -5,6 +5,3 @@ use Rattle.book_progress.proofs.committed.Given as goal
 
 abbrev pub invariant-loop-i : goal.invariant-loop-i
 invariant-loop-i l = (l.i ≤ l.h.shares) × Counted l.h l.nexts l.i l.sum
-
-abbrev pub decreases-loop-i : goal.decreases-loop-i
-decreases-loop-i l = l.h.shares - l.i

@@ -9,6 +9,3 @@ use Rattle.book_progress.proofs.complete.Given as goal
 
 abbrev pub invariant-loop-i : goal.invariant-loop-i
 invariant-loop-i l = (l.i ≤ l.h.shares) × (every l.i (finished (bare l.h l.nexts)) ≡ true)
-
-abbrev pub decreases-loop-i : goal.decreases-loop-i
-decreases-loop-i l = l.h.shares - l.i

@@ -40,18 +40,18 @@ module _ (b : Book) (tick t : ℕ) where
       stands h l rest = rw (s, e, eqb-ne _ _ h, le-false _ _ l)
 
 pub returns-then-not-valid : goal.returns-then-not-valid
-returns-then-not-valid c = (λ z. omega arith, invalid (book_with c.args.h c.args.nexts.now c.args.tickets.now c.args.expiries.now) c.args.tick c.args.ticket (sym c.valid.ensures ∙ c.if-not-valid.true))
+returns-then-not-valid c = invalid (book_with c.args.h c.args.nexts.now c.args.tickets.now c.args.expiries.now) c.args.tick c.args.ticket (sym c.valid.ensures ∙ c.if-not-valid.true)
 
 pub returns-then-not-tick_in : goal.returns-then-not-tick_in
 returns-then-not-tick_in c =
-    (λ z. omega arith, untimely (book_with c.args.h c.args.nexts.now c.args.tickets.now c.args.expiries.now) c.args.tick c.args.ticket (sym c.valid.ensures ∙ c.if-not-valid.false) (sym c.tick_in.ensures ∙ c.if-not-tick_in.true))
+    untimely (book_with c.args.h c.args.nexts.now c.args.tickets.now c.args.expiries.now) c.args.tick c.args.ticket (sym c.valid.ensures ∙ c.if-not-valid.false) (sym c.tick_in.ensures ∙ c.if-not-tick_in.true)
 
 pub holder-share-requires : goal.holder-share-requires
 holder-share-requires c = ((valid-facts (book_with c.args.h c.args.nexts.now c.args.tickets.now c.args.expiries.now) (sym c.valid.ensures ∙ c.if-not-valid.false)).shares_in.1, c.requires.1)
 
 pub returns-then-share-eq0 : goal.returns-then-share-eq0
 returns-then-share-eq0 c =
-    (λ z. omega arith, nowhere (book_with c.args.h c.args.nexts.now c.args.tickets.now c.args.expiries.now) c.args.tick c.args.ticket (sym c.valid.ensures ∙ c.if-not-valid.false) (sym c.tick_in.ensures ∙ c.if-not-tick_in.false) (sym (c.holder-share.ensures c.args.nexts.now c.args.expiries.now) ∙ c.if-share-eq0.true))
+    nowhere (book_with c.args.h c.args.nexts.now c.args.tickets.now c.args.expiries.now) c.args.tick c.args.ticket (sym c.valid.ensures ∙ c.if-not-valid.false) (sym c.tick_in.ensures ∙ c.if-not-tick_in.false) (sym (c.holder-share.ensures c.args.nexts.now c.args.expiries.now) ∙ c.if-share-eq0.true)
 
 -- a share where the ticket stands is among 32
 held : (b : Book) (t j : ℕ) → valid b ≡ true → j ≡ holder b t → j ≢ 0 → OneTo 32 j
@@ -68,7 +68,7 @@ pub returns-then-entry-tick : goal.returns-then-entry-tick
 returns-then-entry-tick c =
     let b = book_with c.args.h c.args.nexts.now c.args.tickets.now c.args.expiries.now in
     let e : c.holder-share.result ≡ holder b c.args.ticket = c.holder-share.ensures c.args.nexts.now c.args.expiries.now in
-    (λ z. omega arith, gone b c.args.tick c.args.ticket (sym c.valid.ensures ∙ c.if-not-valid.false) (sym c.tick_in.ensures ∙ c.if-not-tick_in.false) (rw e at c.if-share-eq0.false) (rw (c.entry.ensures, e) at c.if-entry-tick.true))
+    gone b c.args.tick c.args.ticket (sym c.valid.ensures ∙ c.if-not-valid.false) (sym c.tick_in.ensures ∙ c.if-not-tick_in.false) (rw e at c.if-share-eq0.false) (rw (c.entry.ensures, e) at c.if-entry-tick.true)
 
 pub returns : goal.returns
 returns c =

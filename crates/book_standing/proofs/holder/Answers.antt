@@ -2,7 +2,7 @@
 use mathlib.Core.Path.{◌≡◌, refl, ◌∙◌}
 use mathlib.Core.Logic.{◌≢◌}
 use mathlib.Core.List.{List}
-use Prim.Native.Nat.{ℕ, zero, suc, ◌-◌, ◌≤◌, ◌<◌}
+use Prim.Native.Nat.{ℕ, zero, suc, ◌+◌, ◌-◌, ◌≤◌, ◌<◌}
 use native.Mathlib.Omega.{arith}
 use lib.ListN.{get_or}
 use Rattle.lists.proofs.Tests.{eqb-eq, eqb-ne}
@@ -32,10 +32,13 @@ unfolding holder
 returns-then-ticket-eq0 c p e = rw (eqb-eq c.args.ticket 0 c.if-ticket-eq0.true)
 
 pub returns-then-tickets-i : goal.returns-then-tickets-i
-returns-then-tickets-i c p e = found (book_with c.args.h p c.args.tickets.now e) c.args.ticket c.loop-j.j c.if-ticket-eq0.false c.loop-j-test.true c.if-tickets-i.true (c.loop-j.invariant.1 c.args.h p e)
+returns-then-tickets-i c p e =
+    let t = c.loop-i-test.true in
+    let z : (c.loop-i.i - 1) + 1 ≡ c.loop-i.i = omega arith in
+    z ∙ found (book_with c.args.h p c.args.tickets.now e) c.args.ticket c.loop-i.i c.if-ticket-eq0.false c.loop-i-test.true c.if-tickets-i.true (c.loop-i.invariant.1 c.args.h p e)
 
-pub loop-j-preserved : goal.loop-j-preserved
-loop-j-preserved c = (omega arith, λ h p e. further (book_with h p c.args.tickets.now e) c.args.ticket c.loop-j.j c.loop-j-test.true c.if-tickets-i.false ∙ c.loop-j.invariant.1 h p e)
+pub loop-i-preserved : goal.loop-i-preserved
+loop-i-preserved c = (omega arith, λ h p e. further (book_with h p c.args.tickets.now e) c.args.ticket c.loop-i.i c.loop-i-test.true c.if-tickets-i.false ∙ c.loop-i.invariant.1 h p e)
 
 pub returns : goal.returns
-returns c p e = nowhere (book_with c.args.h p c.args.tickets.now e) c.args.ticket c.loop-j.j c.if-ticket-eq0.false c.loop-j-test.false (c.loop-j.invariant.1 c.args.h p e)
+returns c p e = nowhere (book_with c.args.h p c.args.tickets.now e) c.args.ticket c.loop-i.i c.if-ticket-eq0.false c.loop-i-test.false (c.loop-i.invariant.1 c.args.h p e)

@@ -12,8 +12,5 @@ use Rattle.book_entries.specs.Entries.{book_with}
 use Rattle.book.specs.Shares.{standing, holder}
 use Rattle.book_standing.proofs.holder.Given as goal
 
-abbrev pub invariant-loop-j : goal.invariant-loop-j
-invariant-loop-j l = (l.j ≤ l.initial.j) × ((h : Heads) (p e : List ℕ) → standing (book_with h p l.tickets e) l.ticket l.j ≡ standing (book_with h p l.tickets e) l.ticket l.initial.j)
-
-abbrev pub decreases-loop-j : goal.decreases-loop-j
-decreases-loop-j l = l.j
+abbrev pub invariant-loop-i : goal.invariant-loop-i
+invariant-loop-i l = (l.i ≤ l.fn.h.shares) × ((h : Heads) (p e : List ℕ) → standing (book_with h p l.tickets e) l.ticket l.i ≡ standing (book_with h p l.tickets e) l.ticket l.fn.h.shares)

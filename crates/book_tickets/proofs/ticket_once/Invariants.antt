@@ -1,16 +1,11 @@
 -- `ticket_once` compares the ticket with all before it.
-use borrow.Author.Rules.{rules}
-use mathlib.Core.Path.{◌≡◌, refl, sym, ap}
+use mathlib.Core.Path.{◌≡◌}
 use mathlib.Core.Bool.{Bool, true, false, cond}
 use mathlib.Core.List.{List}
-use Prim.Native.Nat.{ℕ, suc, ◌+◌, ◌-◌, ◌≤◌}
-use native.Mathlib.Numerals.{add-one}
-use native.Mathlib.Omega.{arith}
+use Prim.Native.Nat.{ℕ, suc, ◌≤◌}
 use lib.Dec.{eqb}
 use Rattle.lists.specs.Lists.{at}
 use Rattle.lists.specs.Ranges.{every}
-use Rattle.book_connectives.specs.Connectives.{either}
-use Rattle.book_tickets.specs.Tickets.{stands_once}
 use Rattle.book_tickets.proofs.ticket_once.Given as goal
 
 -- the ticket at place m - 1 is another than the one at place i
@@ -19,6 +14,3 @@ others l i m = cond (eqb (at l m) (at l (suc i))) false true
 
 abbrev pub invariant-loop-m : goal.invariant-loop-m
 invariant-loop-m l = (l.m ≤ l.i) × (every l.m (others l.ticket l.i) ≡ cond l.again false true)
-
-abbrev pub decreases-loop-m : goal.decreases-loop-m
-decreases-loop-m l = l.i - l.m

@@ -1,13 +1,7 @@
 -- `tickets_apart` meets its contract: the loop's invariant: the remainders of the tickets so far are marked, and if none has clashed, each stands once.
-use mathlib.Core.Path.{◌≡◌, refl}
-use mathlib.Core.Bool.{true}
-use Prim.Native.Nat.{◌-◌, ◌≤◌}
+use mathlib.Core.Path.{refl}
 use native.Mathlib.Omega.{arith}
-use borrow.Author.Rules.{rules}
-use Rattle.lists.specs.Ranges.{every}
-use Rattle.lists.proofs.Tests.{eqb-true}
-use Rattle.book_tickets.specs.Tickets.{stands_once}
-use Rattle.book_tickets.proofs.Apart.{Marked, none-marked, more-apart, more-marked}
+use Rattle.book_tickets.proofs.Apart.{none-marked, more-apart, more-marked}
 use Rattle.book_tickets.proofs.tickets_apart.Goals as goal
 
 pub loop-i-init : goal.loop-i-init

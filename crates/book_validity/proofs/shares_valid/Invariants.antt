@@ -16,6 +16,3 @@ use Rattle.book_validity.proofs.shares_valid.Given as goal
 -- the shares so far are valid, and end where they should
 abbrev pub invariant-loop-i : goal.invariant-loop-i
 invariant-loop-i l = (l.i ≤ l.k) × (every l.i (own_valid (book_with l.h l.next l.ticket l.expiry)) ≡ true) × (l.rest < l.k) × (l.before * l.k + l.rest ≡ l.i * l.total)
-
-abbrev pub decreases-loop-i : goal.decreases-loop-i
-decreases-loop-i l = l.k - l.i

@@ -1,7 +1,6 @@
 -- The parts of a line, one after another.
 use Rattle.text_printing.proofs.Printing.{puts_then, puts-last, put-all-then}
 use Rattle.census_lines.specs.Lines.{line_pieces}
-use borrow.Author.Rules.{rules}
 use Rattle.census_lines.proofs.put_line.Goals as goal
 
 pub returns : goal.returns

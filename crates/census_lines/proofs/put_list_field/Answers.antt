@@ -1,6 +1,5 @@
 -- A space, and then the list.
 use Rattle.text_printing.proofs.Printing.{puts_then}
-use borrow.Author.Rules.{rules}
 use Rattle.census_lines.proofs.put_list_field.Goals as goal
 
 pub returns : goal.returns

@@ -1,6 +1,5 @@
 -- The text of the mark, by its test.
 use Rattle.census_lines.proofs.Lines.{mark-kept, mark-other}
-use borrow.Author.Rules.{rules}
 use Rattle.census_lines.proofs.put_mark.Goals as goal
 
 pub returns-then-mark-eq1 : goal.returns-then-mark-eq1

@@ -2,15 +2,12 @@
 use mathlib.Core.Path.{refl}
 use Rattle.text_printing.specs.Printing.{put_all}
 use Rattle.census_lines.specs.Lines.{measured_pieces}
-use borrow.Author.Rules.{rules}
 use Rattle.census_lines.proofs.put_measured.Goals as goal
 
--- src/lib.rt:46:1
-pub returns-in-Known : goal.returns-in-Known
+pub returns-in-Ok : goal.returns-in-Ok
 unfolding measured_pieces
-returns-in-Known c = rw c.in-Known.is c.put_numbers.ensures
+returns-in-Ok c = rw c.in-Ok.is c.put_numbers.ensures
 
--- src/lib.rt:46:1
-pub returns-in-Refused : goal.returns-in-Refused
+pub returns-in-Err : goal.returns-in-Err
 unfolding measured_pieces put_all
-returns-in-Refused c = rw c.in-Refused.is refl
+returns-in-Err c = rw c.in-Err.is refl

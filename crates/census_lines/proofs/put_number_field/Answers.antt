@@ -1,6 +1,5 @@
 -- A space, and then the number.
 use Rattle.text_printing.proofs.Printing.{puts_then, puts-last}
-use borrow.Author.Rules.{rules}
 use Rattle.census_lines.proofs.put_number_field.Goals as goal
 
 pub returns : goal.returns

@@ -4,7 +4,6 @@ use Rattle.census_lines.proofs.Lines.{signed_same}
 use Rattle.census_lines.specs.Lines.{numbers_pieces}
 use mir.Syntax.{w32}
 use mir.ValLaws.{to_z-of_z}
-use borrow.Author.Rules.{rules}
 use Rattle.census_lines.proofs.put_numbers.Goals as goal
 
 pub returns : goal.returns

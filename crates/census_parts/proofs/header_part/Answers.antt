@@ -1,6 +1,5 @@
 -- The header is the first part.
 use Rattle.census_parts.proofs.Texts.{header-given}
-use borrow.Author.Rules.{rules}
 use Rattle.census_parts.proofs.header_part.Goals as goal
 
 pub returns : goal.returns

@@ -1,6 +1,5 @@
 -- The last line is the last part.
 use Rattle.census_parts.proofs.Texts.{last-given}
-use borrow.Author.Rules.{rules}
 use Rattle.census_parts.proofs.last_part.Goals as goal
 
 pub returns : goal.returns

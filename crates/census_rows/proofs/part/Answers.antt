@@ -1,7 +1,6 @@
 -- The part, or none of the list where it does not reach so far.
 use native.Mathlib.Omega.{arith}
 use Rattle.census_rows.proofs.Rows.{part_of, part_none}
-use borrow.Author.Rules.{rules}
 use Rattle.census_rows.proofs.part.Goals as goal
 
 pub returns-then-list-from : goal.returns-then-list-from

@@ -1,38 +1,17 @@
 -- The lines one after another: each turn puts one row more.
-use Prim.Native.Nat.{◌-◌}
 use native.Mathlib.Omega.{arith}
 use borrow.Author.Rules.{rules}
-use Rattle.census_rows.proofs.Rows.{RowsMidway, midway-none, midway-fits, first_small, midway-more, rows_all}
+use Rattle.census_rows.proofs.Rows.{midway-none, midway-fits, first_small, midway-more}
 use Rattle.census_rows.proofs.put_rows.Goals as goal
 
 pub loop-i-init : goal.loop-i-init
 loop-i-init c = midway-none _ _ _ _ _ _ _ _ _ _ c.rows_printed-count.ensures
-
--- DROPPED overflow-mul-items-of
--- mul-items-of : tie.Need-overflow-mul-items-of invariant-loop decreases-loop
--- mul-items-of c = omega (arith, (midway-fits c.before.loop.invariant c.loop-test.true).few)
 
 pub bounds-lengths-i : goal.bounds-lengths-i
 bounds-lengths-i c = omega (arith, (midway-fits c.loop-i.invariant c.loop-i-test.true).few)
 
 pub bounds-marks-i : goal.bounds-marks-i
 bounds-marks-i c = omega (arith, (midway-fits c.loop-i.invariant c.loop-i-test.true).few)
-
--- DROPPED overflow-add-put-row
--- add-put-row : tie.Need-overflow-add-put-row invariant-loop decreases-loop
--- add-put-row c = omega (arith, (midway-fits c.before.before.before.before.before.loop.invariant c.before.before.before.before.loop-test.true).near)
-
--- DROPPED overflow-add-kept
--- add_kept : tie.Need-overflow-add-kept invariant-loop decreases-loop
--- add_kept c = omega (arith, (midway-fits c.before.before.before.before.before.before.before.before.before.before.before.before.loop.invariant c.before.before.before.before.before.before.before.before.before.before.before.loop-test.true).few, c.before.before.before.before.before.before.before.before.before.before.before.before.loop.invariant.few, c.kept_of.ensures.1)
-
--- DROPPED overflow-add-first
--- add-first : tie.Need-overflow-add-first invariant-loop decreases-loop
--- add-first c = omega (arith, first_small c.before.before.before.before.before.before.before.before.before.before.before.before.loop.invariant c.before.before.before.before.before.before.before.before.before.before.before.loop-test.true, (midway-fits c.before.before.before.before.before.before.before.before.before.before.before.before.loop.invariant c.before.before.before.before.before.before.before.before.before.before.before.loop-test.true).narrow)
-
--- DROPPED overflow-add-item
--- add-item : tie.Need-overflow-add-item invariant-loop decreases-loop
--- add-item c = omega (arith, (midway-fits c.before.before.before.before.before.before.before.before.before.before.before.before.loop.invariant c.before.before.before.before.before.before.before.before.before.before.before.loop-test.true).few, c.before.before.before.before.before.before.before.before.before.before.before.before.loop.invariant.item_small, c.before.before.before.before.before.before.before.before.before.items_of.ensures.1)
 
 pub loop-i-preserved : goal.loop-i-preserved
 loop-i-preserved c = midway-more c.loop-i.invariant c.loop-i-test.true _ _ _ _ _ _ _ c.items_of-m.ensures.0 c.items_of-m.ensures.1 c.kept_of-kept.ensures.0 c.kept_of-kept.ensures.1 (search rules) c.part.ensures c.part-in-loop-i.ensures c.part-in-loop-i-2.ensures c.put_row-end.ensures

@@ -1,12 +1,6 @@
 -- The lines one after another: each turn puts one row more.
-use Prim.Native.Nat.{◌-◌}
-use native.Mathlib.Omega.{arith}
-use borrow.Author.Rules.{rules}
-use Rattle.census_rows.proofs.Rows.{RowsMidway, midway-none, midway-fits, first_small, midway-more, rows_all}
+use Rattle.census_rows.proofs.Rows.{RowsMidway}
 use Rattle.census_rows.proofs.put_rows.Given as goal
 
 abbrev pub invariant-loop-i : goal.invariant-loop-i
 invariant-loop-i l = RowsMidway l.listed l.n l.rows l.s0 l.s1 l.words l.lengths l.marks l.initial.out l.count l.out l.end l.kept l.first l.item l.i
-
-abbrev pub decreases-loop-i : goal.decreases-loop-i
-decreases-loop-i l = l.count - l.i

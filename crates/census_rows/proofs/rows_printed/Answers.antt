@@ -1,7 +1,6 @@
 -- The tests, one after another.
 use native.Mathlib.Omega.{arith}
 use Rattle.census_rows.proofs.Rows.{printed-many, printed-large, printed-far, printed-all}
-use borrow.Author.Rules.{rules}
 use Rattle.census_rows.proofs.rows_printed.Goals as goal
 
 pub returns-then-rows-gt-ROWS : goal.returns-then-rows-gt-ROWS

@@ -3,5 +3,5 @@ use native.Mathlib.Omega.{arith}
 use Rattle.census_size.proofs.Sizes.{refusal-asked}
 use Rattle.census_size.proofs.asked.Goals as goal
 
-pub returns-in-Refused : goal.returns-in-Refused
-returns-in-Refused c = refusal-asked _ _ _ (λ z. omega arith) c.named_size-size.ensures c.in-Refused.ensures
+pub returns-in-Err : goal.returns-in-Err
+returns-in-Err c = (refusal-asked _ _ _ (λ z. omega arith) c.named_size-size.ensures c.in-Err.ensures)

@@ -12,13 +12,5 @@ returns-then-second-lt48 c = two_none _ _ _ (λ n h m p. omega arith)
 pub returns-then-second-gt57 : goal.returns-then-second-gt57
 returns-then-second-gt57 c = two_none _ _ _ (λ n h m p. omega arith)
 
--- DROPPED overflow-mul-result
--- mul-result : tie.Need-overflow-mul-result
--- mul-result c = omega (arith, named_small _ _ c.before.before.before.one-digit.ensures)
-
--- DROPPED overflow-add-result
--- add-result : tie.Need-overflow-add-result
--- add-result c = omega (arith, named_small _ _ c.before.before.before.one-digit.ensures)
-
 pub returns : goal.returns
 returns c = two-named _ _ _ _ c.one_digit-tens.ensures (omega arith) (omega arith) (omega arith) _ (omega arith)

@@ -1,5 +1,4 @@
 -- The three numbers, each but the last with a space, and the text behind them.
-use borrow.Author.Rules.{rules}
 use Rattle.census_summary.proofs.Lines.{line-put}
 use Rattle.census_summary.proofs.put_line.Goals as goal
 

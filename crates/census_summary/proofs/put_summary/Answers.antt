@@ -1,8 +1,7 @@
 -- The lines one after another: each turn puts one more.
-use Prim.Native.Nat.{◌-◌}
 use native.Mathlib.Omega.{arith}
 use borrow.Author.Rules.{rules}
-use Rattle.census_summary.proofs.Lines.{LinesPut, lines_none, line-listed, lines_more, summary-written}
+use Rattle.census_summary.proofs.Lines.{lines_none, lines_more, summary-written}
 use Rattle.census_summary.proofs.put_summary.Goals as goal
 
 pub loop-size-init : goal.loop-size-init

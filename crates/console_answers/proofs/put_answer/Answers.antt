@@ -8,8 +8,8 @@ use Rattle.console_answers.proofs.Answers.{answer-more, answer-past}
 use borrow.Author.Rules.{rules}
 use Rattle.console_answers.proofs.put_answer.Goals as goal
 
-pub loop-i-preserved : goal.loop-i-preserved
-loop-i-preserved c = (search rules, ap (put_all _) c.put_field-next.ensures ∙ answer-more _ _ _ _ _ c.loop-i-test.true ∙ c.loop-i.invariant.1)
+pub loop-byte-preserved : goal.loop-byte-preserved
+loop-byte-preserved c = (search rules, ap (put_all _) c.put_field-next.ensures ∙ answer-more _ _ _ _ _ c.loop-byte-test.true ∙ c.loop-byte.invariant.1)
 
 pub returns : goal.returns
-returns c = sym (answer-past _ _ _ _ _ c.loop-i-test.false) ∙ c.loop-i.invariant.1
+returns c = sym (answer-past _ _ _ _ _ c.loop-byte-test.false) ∙ c.loop-byte.invariant.1

@@ -8,8 +8,5 @@ use Rattle.console_answers.proofs.Answers.{answer-more, answer-past}
 use borrow.Author.Rules.{rules}
 use Rattle.console_answers.proofs.put_answer.Given as goal
 
-abbrev pub invariant-loop-i : goal.invariant-loop-i
-invariant-loop-i l = (length l.out ≡ length l.initial.out) × (put_all (answer_pieces l.reply (lists l.s0 l.s1 l.words l.lengths l.bytes) (drop l.i l.text)) (output l.out l.next) ≡ put_all (answer_pieces l.reply (lists l.s0 l.s1 l.words l.lengths l.bytes) l.text) (output l.initial.out l.place))
-
-abbrev pub decreases-loop-i : goal.decreases-loop-i
-decreases-loop-i l = length l.text - l.i
+abbrev pub invariant-loop-byte : goal.invariant-loop-byte
+invariant-loop-byte l = (length l.out ≡ length l.initial.out) × (put_all (answer_pieces l.reply (lists l.s0 l.s1 l.words l.lengths l.bytes) (drop l.byte-index l.text)) (output l.out l.next) ≡ put_all (answer_pieces l.reply (lists l.s0 l.s1 l.words l.lengths l.bytes) l.text) (output l.initial.out l.place))

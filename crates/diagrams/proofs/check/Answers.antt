@@ -4,7 +4,7 @@ use Rattle.diagrams.proofs.Checks.{maps-accepted, maps-refused}
 use Rattle.diagrams.proofs.check.Goals as goal
 
 pub returns-then-not-connected : goal.returns-then-not-connected
-returns-then-not-connected c = maps-refused _ _ _ c.in-Accepted.ensures (no-fails c.connected.ensures c.if-not-connected.true)
+returns-then-not-connected c = maps-refused _ _ _ c.in_ok-check_maps.ensures (no-fails c.connected.ensures c.if-not-connected.true)
 
-pub returns-else-not-connected : goal.returns-else-not-connected
-returns-else-not-connected c = maps-accepted _ _ _ c.in-Accepted.ensures (yes-holds c.connected.ensures c.if-not-connected.false)
+pub returns : goal.returns
+returns c = maps-accepted _ _ _ c.in_ok-check_maps.ensures (yes-holds c.connected.ensures c.if-not-connected.false)

@@ -7,8 +7,5 @@ use Rattle.lists.proofs.Tests.{eqb-true, eqb-eq}
 use Rattle.diagrams_entries.proofs.Answers.{Tested, tested-none, tested-more, tested-all}
 use Rattle.diagrams_entries.proofs.all_reached.Given as goal
 
-abbrev pub invariant-loop-i : goal.invariant-loop-i
-invariant-loop-i l = Tested (λ k. get_or l.marks k 0 ≡ 1) (length l.marks) l.i l.all
-
-abbrev pub decreases-loop-i : goal.decreases-loop-i
-decreases-loop-i l = length l.marks - l.i
+abbrev pub invariant-loop-mark : goal.invariant-loop-mark
+invariant-loop-mark l = Tested (λ k. get_or l.marks k 0 ≡ 1) (length l.marks) l.mark-index l.all

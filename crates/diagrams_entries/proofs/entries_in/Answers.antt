@@ -9,6 +9,6 @@ use Rattle.diagrams_entries.proofs.entries_in.Goals as goal
 
 pub returns : goal.returns
 returns c =
-    let a = tested-all _ c.loop-i.invariant c.loop-i-test.false in
+    let a = tested-all _ c.loop-x.invariant c.loop-x-test.false in
     let b = places-edges (OneTo (length c.args.s.now)) c.args.s.now in
     (λ q. b.0 (a.0 q), λ e. a.1 (b.1 e))

@@ -7,8 +7,5 @@ use Rattle.lists.proofs.Lists.{places-edges}
 use Rattle.diagrams_entries.proofs.Answers.{edge_test, Tested, tested-none, tested-more, tested-all}
 use Rattle.diagrams_entries.proofs.entries_in.Given as goal
 
-abbrev pub invariant-loop-i : goal.invariant-loop-i
-invariant-loop-i l = Tested (λ k. OneTo (length l.s) (get_or l.s k 0)) (length l.s) l.i l.good
-
-abbrev pub decreases-loop-i : goal.decreases-loop-i
-decreases-loop-i l = length l.s - l.i
+abbrev pub invariant-loop-x : goal.invariant-loop-x
+invariant-loop-x l = Tested (λ k. OneTo (length l.s) (get_or l.s k 0)) (length l.s) l.x-index l.good

@@ -1,12 +1,8 @@
 -- `thrice` meets its contract: the loop has passed only edges that three steps give back.
 use mathlib.Core.Path.{◌≡◌}
-use Prim.Native.Nat.{◌+◌, ◌-◌}
 use Rattle.lists.specs.Lists.{at}
 use Rattle.diagrams_entries.proofs.Answers.{Passed}
 use Rattle.diagrams_orders.proofs.thrice.Given as goal
 
 abbrev pub invariant-loop-x : goal.invariant-loop-x
 invariant-loop-x l = Passed (λ y. at l.s0 (at l.s0 (at l.s0 y)) ≡ y) l.n l.x
-
-abbrev pub decreases-loop-x : goal.decreases-loop-x
-decreases-loop-x l = l.n + 1 - l.x

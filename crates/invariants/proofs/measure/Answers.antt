@@ -25,7 +25,7 @@ pub returns : goal.returns
 returns c =
     let n = length c.args.s0.now in
     let e2_is : ◌≡◌ {A = ℕ} c.fixed-e2.result (fixed_points n (at c.args.s1.now)) = c.fixed-e2.ensures ∙ ap (λ m. fixed_points m (at c.args.s1.now)) c.requires.lengths in
-    let held = held-some c.count_cycles-cycles.ensures.held c.if-level-eq0.false in (
+    let held = held-some c.count_cycles-cycles.ensures.held c.if-outgrown.false in (
       λ far. let few = held.1 in omega arith,
       record {
         e2_is = e2_is;

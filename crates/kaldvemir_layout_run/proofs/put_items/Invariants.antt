@@ -6,6 +6,3 @@ use Rattle.kaldvemir_layout_run.proofs.put_items.Given as goal
 
 abbrev pub invariant-loop-i : goal.invariant-loop-i
 invariant-loop-i l = (l.i ≤ 51) × (l.numbers ≡ paste l.initial.numbers 3 l.items l.i)
-
-abbrev pub decreases-loop-i : goal.decreases-loop-i
-decreases-loop-i l = 51 - l.i

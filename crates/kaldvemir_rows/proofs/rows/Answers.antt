@@ -6,17 +6,19 @@ use borrow.Author.Rules.{rules}
 use Rattle.kaldvemir_rows.proofs.rows.Goals as goal
 
 pub overflow_cast-next : goal.overflow_cast-next
-overflow_cast-next c = record { fits = omega (arith, (rows-fitting c.args.run.now _ _ _ _ _ _ _ (rw c.in-Rows.is at (rw c.held.ensures.run at c.rows-done.ensures))).stage_small) }
+overflow_cast-next c = record { fits = omega (arith, (rows-fitting c.args.run.now _ _ _ _ _ (rw c.in-Ok.is at (rw c.held.ensures.run at c.rows-done.ensures))).stage_small) }
 
-pub overflow_cast-next-in-Rows : goal.overflow_cast-next-in-Rows
-overflow_cast-next-in-Rows c = record { fits = omega (arith, (rows-fitting c.args.run.now _ _ _ _ _ _ _ (rw c.in-Rows.is at (rw c.held.ensures.run at c.rows-done.ensures))).length_small) }
+pub overflow_cast-next-in-Ok : goal.overflow_cast-next-in-Ok
+overflow_cast-next-in-Ok c = record { fits = omega (arith, (rows-fitting c.args.run.now _ _ _ _ _ (rw c.in-Ok.is at (rw c.held.ensures.run at c.rows-done.ensures))).length_small) }
 
-pub returns-in-Refused : goal.returns-in-Refused
-returns-in-Refused c =
+pub returns-in-Err : goal.returns-in-Err
+returns-in-Err c =
     let h = c.held.ensures in
-    (_, rw h.run at c.rows-done.ensures, rows-refused c.args.run.now _ _ _ _ _ h.whole (rw c.in-Refused.is at (rw c.held.ensures.run at c.rows-done.ensures)))
+    let P = rw c.in-Err.is at (rw h.run at c.rows-done.ensures) in
+    (_, P, rows-refused c.args.run.now _ _ _ _ _ h.whole P)
 
-pub returns-in-Rows : goal.returns-in-Rows
-returns-in-Rows c =
+pub returns-in-Ok : goal.returns-in-Ok
+returns-in-Ok c =
     let h = c.held.ensures in
-    (_, rw h.run at c.rows-done.ensures, c.put_back.ensures ∙ fitting-numbers c.args.run.now _ (rows-fitting c.args.run.now _ _ _ _ _ _ _ (rw c.in-Rows.is at (rw c.held.ensures.run at c.rows-done.ensures))))
+    let P = rw c.in-Ok.is at (rw h.run at c.rows-done.ensures) in
+    (_, P, c.put_back.ensures ∙ fitting-numbers c.args.run.now _ (rows-fitting c.args.run.now _ _ _ _ _ P))

@@ -1,7 +1,5 @@
 -- `isomorphic` meets its contract: isomorphic diagrams have one size, and equal words decide.
-use mathlib.Core.Path.{sym}
-use mathlib.Core.Bool.{true≢false}
-use Rattle.labelling_isomorphism.proofs.Decided.{sizes-same, root-isomorphic, any-rooting-isomorphic}
+use Rattle.labelling_isomorphism.proofs.Decided.{root-isomorphic, any-rooting-isomorphic}
 use Rattle.labelling_isomorphism.proofs.isomorphic.Goals as goal
 
 pub returns-then-rooted : goal.returns-then-rooted

@@ -5,6 +5,6 @@ use Rattle.labelling_rootings.specs.Among.{NoneBefore}
 use Rattle.labelling_rootings.proofs.NotLeast.{u-not-least}
 use Rattle.labelling_operations_rootings.proofs.unkept.Goals as goal
 
-pub returns-in-Accepted : goal.returns-in-Accepted
+pub returns : goal.returns
 unfolding Kept NoneBefore
-returns-in-Accepted c = (c.in-Accepted.ensures, u-not-least _ _ _ _ refl c.requires)
+returns c = (c.in_ok-check.ensures, u-not-least _ _ _ _ refl c.requires)

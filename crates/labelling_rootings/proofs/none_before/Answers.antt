@@ -1,13 +1,14 @@
 -- `none_before` meets its contract.
 use borrow.Author.Rules.{rules}
-use mathlib.Core.Path.{◌≡◌, refl, sym, ◌∙◌}
+use mathlib.Core.Path.{refl, sym, ◌∙◌}
 use mathlib.Core.Bool.{true≢false}
 use native.Mathlib.Omega.{arith}
-use lib.ListN.{length}
-use Rattle.diagrams_entries.proofs.Answers.{answer-no, yes-holds}
+use Rattle.diagrams_entries.proofs.Answers.{answer-no, yes-holds, passed-more, passed-all}
+use Rattle.words.proofs.Order.{precedes-false}
+use Rattle.labelling.specs.Labelling.{word_of}
 use Rattle.labelling_rootings.specs.Among.{NoneBefore}
 use Rattle.labelling_rootings.proofs.NotLeast.{u-not-least}
-use Rattle.labelling_rootings.proofs.Tried.{none_more, none-fails}
+use Rattle.labelling_rootings.proofs.Tried.{none-fails}
 use Rattle.labelling_rootings.proofs.none_before.Goals as goal
 
 pub returns-then-u_comes_first-clause-answer : goal.returns-then-u_comes_first-clause-answer
@@ -19,13 +20,14 @@ returns-then-comes_before-clause-answer c =
 
 pub loop-x-preserved : goal.loop-x-preserved
 loop-x-preserved c = (
-  record { size_is = c.loop-x.invariant.0.size_is; within = search rules; fresh = c.comes_before.ensures.stamped; empty = c.comes_before.ensures.empty; long = search rules },
-  none_more c.args.s0.now c.args.s1.now c.args.own.now c.loop-x.x c.loop-x.invariant.1 (sym c.comes_before.ensures.answer ∙ c.if-comes_before.false),
+  record { size_is = c.loop-x.invariant.0.size_is; fresh = c.comes_before.ensures.stamped; empty = c.comes_before.ensures.empty; long = search rules },
+  passed-more _ c.loop-x.invariant.1 (search rules) (precedes-false (word_of c.args.s0.now c.args.s1.now c.loop-x.x) c.args.own.now (sym c.comes_before.ensures.answer ∙ c.if-comes_before.false)),
 )
 
-pub returns-clause-answer : goal.returns-clause-answer
+-- the last rooting is tried too
+pub returns-else-comes_before-clause-answer : goal.returns-else-comes_before-clause-answer
 unfolding NoneBefore
-returns-clause-answer c =
-    let t = c.loop-x.invariant.0 in
-    let e : c.loop-x.x ≡ length c.args.s0.now = omega (arith, t.size_is) in
-    (λ _. rw e at c.loop-x.invariant.1, λ _. refl)
+returns-else-comes_before-clause-answer c =
+    let last = precedes-false (word_of c.args.s0.now c.args.s1.now c.loop-x.x) c.args.own.now (sym c.comes_before.ensures.answer ∙ c.if-comes_before.false) in
+    let all = passed-all _ (passed-more _ c.loop-x.invariant.1 (search rules) last) (omega arith) in
+    (λ _ y e. all y e, λ _. refl)

@@ -21,17 +21,17 @@ branch-loop-e-preserved t c =
 
 pub branch-returns : goal.branch-returns
 branch-returns t c =
-    let e : c.loop-e.e ≡ c.args.h + 3 = omega (arith, c.loop-e.invariant.events) in
+    let e : c.loop-e.e ≡ c.args.h + 3 = omega arith in
     branched-all _ _ _ _ _ _ _ _ _ (rw e at c.loop-e.invariant)
 
 pub end_or_pop-write-requires : goal.end_or_pop-write-requires
 end_or_pop-write-requires t c =
-    ending c.args.out.now c.args.place c.args.word.now c.args.len (rw (c.if-h-eq0.true, c.if-f-eq0.true) at c.requires)
+    ending c.args.out.now c.args.place c.args.word.now c.args.len (rw (c.if-h-eq0.true, c.if-all_given.true) at c.requires)
 
-pub end_or_pop-returns-then-f-eq0 : goal.end_or_pop-returns-then-f-eq0
-end_or_pop-returns-then-f-eq0 t c =
-    rw (c.if-h-eq0.true, c.if-f-eq0.true)
+pub end_or_pop-returns-then-all_given : goal.end_or_pop-returns-then-all_given
+end_or_pop-returns-then-all_given t c =
+    rw (c.if-h-eq0.true, c.if-all_given.true)
     (ended c.args.out.now c.args.place c.args.word.now c.args.len _ _ (omega (arith, c.requires.places)) c.write.ensures)
 
-pub end_or_pop-returns-else-f-eq0 : goal.end_or_pop-returns-else-f-eq0
-end_or_pop-returns-else-f-eq0 t c = rw c.if-h-eq0.true (dead _ _ _ _ _ c.if-f-eq0.false)
+pub end_or_pop-returns-else-all_given : goal.end_or_pop-returns-else-all_given
+end_or_pop-returns-else-all_given t c = rw c.if-h-eq0.true (dead _ _ _ _ _ c.if-all_given.false)

@@ -1,8 +1,7 @@
 -- Where U leads to no end, T does.
-use Rattle.std.proofs.Common.{rules, ◌≡◌, sym, ap, ◌∙◌}
+use Rattle.std.proofs.Common.{◌≡◌, sym, ap, ◌∙◌}
 use Rattle.listing_successor.specs.Successor.{state_after_first, can_end, first_word}
 use Rattle.listing_successor_states.specs.declared.StackState.{StackState}
-use Rattle.listing_successor.proofs.Branches.{start-T-ends, start-U-dead}
 use Rattle.listing_successor.proofs.first_word.Goals as goal
 
 pub returns-then-can_end : goal.returns-then-can_end
@@ -10,16 +9,6 @@ unfolding first_word
 returns-then-can_end c =
     let tried : c.can_end.result ≡ can_end (state_after_first c.args.n 0).height (state_after_first c.args.n 0).free = c.can_end.ensures ∙ ap (λ (l : StackState). can_end l.height l.free) c.state_after_first-u.ensures in
     rw (sym tried ∙ c.if-can_end.true) c.least_word.ensures
-
-pub least_word-requires : goal.least_word-requires
-least_word-requires c =
-    let tried : c.can_end.result ≡ can_end (state_after_first c.args.n 0).height (state_after_first c.args.n 0).free = c.can_end.ensures ∙ ap (λ (l : StackState). can_end l.height l.free) c.state_after_first-u.ensures in
-    (search rules, sym tried ∙ c.if-can_end.true)
-
-pub least_word-requires-2 : goal.least_word-requires-2
-least_word-requires-2 c =
-    let tried : c.can_end.result ≡ can_end (state_after_first c.args.n 0).height (state_after_first c.args.n 0).free = c.can_end.ensures ∙ ap (λ (l : StackState). can_end l.height l.free) c.state_after_first-u.ensures in
-    (search rules, start-T-ends _ (start-U-dead c.args.n (search rules) (sym tried ∙ c.if-can_end.false)))
 
 pub returns : goal.returns
 unfolding first_word

@@ -12,6 +12,3 @@ use Rattle.run_advance.proofs.take_back.Given as goal
 abbrev pub invariant-loop-i : goal.invariant-loop-i
 invariant-loop-i l = (1 ≤ l.i) × (l.i ≤ l.l)
     × ((s0 : List ℕ) → SpelledSoFar (take l.l l.items) l.initial.stack l.popped s0 l.initial.s1 l.n 0 → Back l.n l.l l.items l.i l.stack l.popped s0 l.s1 l.m.used l.m.height)
-
-abbrev pub decreases-loop-i : goal.decreases-loop-i
-decreases-loop-i l = l.i

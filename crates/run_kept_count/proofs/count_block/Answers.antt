@@ -1,6 +1,5 @@
 -- The block is written, its marks are found, and they are counted.
 use native.Mathlib.Omega.{arith}
-use borrow.Author.Rules.{rules}
 use Rattle.run_blocks_answers.proofs.Given.{gave-holds, gave-few}
 use Rattle.census_blocks.proofs.Texts.{lists-room}
 use Rattle.run_kept_count.proofs.Counting.{block-counted}

@@ -1,5 +1,4 @@
 -- `listed` decides the refusal.
-use borrow.Author.Rules.{rules}
 use mathlib.Core.Path.{refl}
 use Rattle.run_kept_count.proofs.kept_count.Goals as goal
 

@@ -1,8 +1,6 @@
 -- The marks one after another: each turn counts one more.
-use Prim.Native.Nat.{◌-◌}
 use native.Mathlib.Omega.{arith}
-use borrow.Author.Rules.{rules}
-use Rattle.run_kept_count.proofs.Counting.{MarksCounted, marks-none, marks-more, marks-all}
+use Rattle.run_kept_count.proofs.Counting.{marks-none, marks-more, marks-all}
 use Rattle.run_kept_count.proofs.kept_marks.Goals as goal
 
 pub loop-i-init : goal.loop-i-init

@@ -1,9 +1,7 @@
 -- All diagrams of the size, a block at a time.
 use Prim.Native.Nat.{◌-◌}
-use native.Mathlib.Omega.{arith}
-use borrow.Author.Rules.{rules}
 use Rattle.listing.specs.Listing.{count}
-use Rattle.run_kept_count.proofs.Counting.{Counting, counting-none, more_left, counting-stands, counting-block, counting_more, counting-falls, counting-small, counting-all}
+use Rattle.run_kept_count.proofs.Counting.{Counting}
 use Rattle.run_kept_count.proofs.kept_of_size.Given as goal
 
 abbrev pub invariant-loop-given : goal.invariant-loop-given

@@ -1,5 +1,5 @@
 -- `mark_rows` meets its contract: before each row the marks are as `Marking` says.
-use Rattle.std.proofs.Common.{rules, refl, ◌∙◌, arith}
+use Rattle.std.proofs.Common.{rules, refl, arith}
 use Rattle.pending_ring.proofs.Laws.{ring-empty}
 use Rattle.run_marks.proofs.Marking.{marking-starts, marking-done, marking-length, marking-rooms, marking-accepted, marking-own, marking-small, marking-again}
 use Rattle.run_marks.proofs.mark_rows.Goals as goal

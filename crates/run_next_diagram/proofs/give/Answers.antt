@@ -7,7 +7,7 @@ use lib.ListN.{length}
 use lib.Seq.{length-take-le}
 use Rattle.words.proofs.Outputs.{long_enough}
 use Rattle.listing.specs.Diagrams.{diagram_of}
-use Rattle.run_answers.specs.declared.Stepping.TheVariants as stepping
+use Rattle.std.specs.Prelude.{ℕ, Some, Ok}
 use Rattle.run_next_diagram.proofs.Giving.{held-length, held_small, held-within, held-spells, held-diagram, held_at, held-over}
 use Rattle.run_next_diagram.proofs.give.Goals as goal
 
@@ -29,7 +29,7 @@ returns c =
     let l = long_enough c.args.size c.args.s0.now c.args.s1.now c.args.word.now c.requires.2 in
     let s = c.write_diagram.ensures (diagram_of w) (held-diagram c.args.size w c.args.next e a) in
     record {
-      answer = ap stepping.Length (held-length c.args.size w c.args.next e a);
+      answer = ap (λ (m : ℕ). Ok (Some m)) (held-length c.args.size w c.args.next e a);
       leaves = held_at c.args.size w c.args.next e a;
       written = record {
         s0_written = s.0;

@@ -1,5 +1,4 @@
 -- `padded` meets its contract: the word filled into zeros.
-use borrow.Author.Rules.{rules}
 use Rattle.listing_successor_endings.proofs.Padding.{padded-over}
 use Rattle.run_rows_writing.proofs.padded.Goals as goal
 

@@ -1,5 +1,5 @@
 -- `write_rows` meets its contract: before each row the block is as `Midlist` says, and the scratch lists hold the diagram of the last row's word.
-use Rattle.std.proofs.Common.{◌≤◌, sym, length, arith}
+use Rattle.std.proofs.Common.{◌≡◌, ◌≤◌, sym, length, arith}
 use lib.Seq.{length-take-le}
 use Rattle.run_rows_writing.proofs.Midlist.{midlist-starts, mid-small, mid-within, mid-word, mid-long, mid_done, mid-ends, mid-next-within, mid-held, mid-begins, mid-room, mid-again}
 use Rattle.run_rows_writing.proofs.write_rows.Goals as goal
@@ -56,4 +56,6 @@ padded-requires c =
 pub returns : goal.returns
 returns c =
     let r = c.arrived-2.ensures in
-    rw (r.0, r.1, c.padded.ensures) (mid_done c.loop-i.invariant.0 c.loop-i-test.false)
+    let M = c.loop-i.invariant.0 in
+    let e : c.loop-i.i ≡ c.args.rows = omega (arith, M.few) in
+    rw (r.0, r.1, c.padded.ensures) (rw e at (mid_done M c.loop-i-test.false))

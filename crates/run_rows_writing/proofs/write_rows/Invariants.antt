@@ -13,6 +13,3 @@ use Rattle.run_rows_writing.proofs.write_rows.Given as goal
 abbrev pub invariant-loop-i : goal.invariant-loop-i
 invariant-loop-i l =
     Midlist l.run l.rows l.initial.s0 l.initial.s1 l.initial.words l.initial.lengths l.stage l.items l.l l.edge l.place l.i l.s0 l.s1 l.words l.lengths × WordHeld l.run.size (take l.l l.items) l.stack l.popped l.d0 l.d1
-
-abbrev pub decreases-loop-i : goal.decreases-loop-i
-decreases-loop-i l = l.rows - l.i

@@ -1,6 +1,5 @@
 -- Nine bytes an edge, and forty.
 use mathlib.Core.Path.{refl}
-use borrow.Author.Rules.{rules}
 use Rattle.census_definition.specs.Census.{row_bytes}
 use Rattle.run_text.proofs.row_bytes.Goals as goal
 

@@ -33,7 +33,7 @@ overflow_sub-count_of c = omega (arith, c.count_of.ensures, c.given-p.ensures.wi
 pub put_blocks-block-requires : goal.put_blocks-block-requires
 put_blocks-block-requires c =
     let R = c.given-p.ensures in
-    let k = c.least-rows.ensures in
+    let k = c.min-rows.ensures in
     let t = c.count_of.ensures in
     let r = room-asked _ _ _ _ c.row_bytes.ensures (c.short.ensures.1 c.if-short.false) in
     (R, omega (arith, R.within), room-given _ _ _ _ (omega arith) r)
@@ -42,4 +42,4 @@ pub returns : goal.returns
 returns c =
     let R = c.given-p.ensures in
     let r = room-asked _ _ _ _ c.row_bytes.ensures (c.short.ensures.1 c.if-short.false) in
-    inr (_, _, R, r, rw c.count_of.ensures at c.least-rows.ensures, c.put_blocks-block.ensures)
+    inr (_, _, R, r, rw c.count_of.ensures at c.min-rows.ensures, c.put_blocks-block.ensures)

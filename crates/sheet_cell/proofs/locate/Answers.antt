@@ -4,7 +4,7 @@ use Rattle.sheet_cell.proofs.Locating.{sized-spells, located-at}
 use Rattle.sheet_cell.proofs.locate.Goals as goal
 
 pub position_of-requires : goal.position_of-requires
-position_of-requires c = (sized-spells c.args.word.now _ c.in-Size.ensures _ c.to_index.ensures, omega arith)
+position_of-requires c = (sized-spells c.args.word.now _ c.in_ok-size.ensures _ c.to_index.ensures, omega arith)
 
-pub returns-else-size : goal.returns-else-size
-returns-else-size c = located-at c.args.word.now _ c.in-Size.ensures _ c.to_index.ensures c.if-size.false _ c.position_of.ensures
+pub returns : goal.returns
+returns c = located-at c.args.word.now _ c.in_ok-size.ensures _ c.to_index.ensures c.if-size.false _ c.position_of.ensures

@@ -5,7 +5,6 @@ use lib.IntN.{nat_abs}
 use mir.Syntax.{w32}
 use mir.ValLaws.{to_z-of_z}
 use Rattle.text_printing.proofs.Signs.{tested, put-negative, put_other}
-use borrow.Author.Rules.{rules}
 use Rattle.text_printing.proofs.put_signed.Goals as goal
 
 pub returns-then-x-lt0 : goal.returns-then-x-lt0

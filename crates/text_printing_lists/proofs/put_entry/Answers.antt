@@ -3,7 +3,6 @@ use mathlib.Core.Path.{sym, ap, ◌∙◌}
 use Rattle.words_decimals.specs.Decimals.{decimal}
 use Rattle.text_printing_pieces.specs.Pieces.{put}
 use Rattle.text_printing_lists.proofs.Lists.{entry-one}
-use borrow.Author.Rules.{rules}
 use Rattle.text_printing_lists.proofs.put_entry.Goals as goal
 
 pub returns : goal.returns

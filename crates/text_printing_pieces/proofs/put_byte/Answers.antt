@@ -2,7 +2,6 @@
 use mathlib.Core.Path.{sym}
 use native.Mathlib.Omega.{arith}
 use Rattle.text_printing_pieces.proofs.Pieces.{put-short, put-byte-fits}
-use borrow.Author.Rules.{rules}
 use Rattle.text_printing_pieces.proofs.put_byte.Goals as goal
 
 pub returns-then-out-place : goal.returns-then-out-place

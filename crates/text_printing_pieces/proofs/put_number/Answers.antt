@@ -1,6 +1,5 @@
 -- The promise of words_decimals::put_decimal, as a piece that is put.
 use Rattle.text_printing_pieces.proofs.Pieces.{put_of}
-use borrow.Author.Rules.{rules}
 use Rattle.text_printing_pieces.proofs.put_number.Goals as goal
 
 pub returns : goal.returns

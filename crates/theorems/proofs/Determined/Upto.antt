@@ -5,22 +5,22 @@ use mathlib.Core.Logic.{◌⊎◌, inl, inr}
 use mathlib.Core.List.{List}
 use Prim.Native.Nat.{ℕ, zero, suc, ◌<◌}
 use native.Mathlib.Omega.{arith}
-use Rattle.run_answers.specs.declared.Beginning.{Beginning}
-use Rattle.run_answers.specs.declared.Beginning.TheVariants as beginning
+use Rattle.std.specs.Prelude.{Option, Some, None, Result, Ok, Err}
+use Rattle.refusals.specs.declared.Refusal.{Refusal}
+use Rattle.refusals.specs.Numbers.{number}
 use Rattle.upto.specs.Upto.{total}
 use Rattle.upto_answers.specs.declared.UptoRun.{UptoRun}
-use Rattle.upto_answers.specs.declared.UptoStepping.{UptoStepping}
-use Rattle.upto_answers.specs.declared.UptoStepping.TheVariants.{Given, End, Refused}
+use Rattle.upto_answers.specs.declared.UptoGiven.{UptoGiven}
 use Rattle.upto_answers.specs.Promises.{upto_after, finished_upto, UptoAt, UptoFinished, UptoBeginPromise, RefusedUpto, UptoGives, UptoStepPromise}
 use Rattle.upto_answers.proofs.Runs.{upto-stands-once, upto-stands-not-over}
 use Rattle.theorems.specs.Determined.{SameLists}
-use Rattle.theorems.proofs.Determined.Diagrams.{written_once, untouched-once}
+use Rattle.theorems.proofs.Determined.Diagrams.{written_once, untouched-once, same-refusal}
 
-pub upto_begin_once : (n : ℕ) (next other : UptoRun) (r q : Beginning) → UptoBeginPromise n next r → UptoBeginPromise n other q → (r ≡ q) × (next ≡ other)
-upto_begin_once n next other beginning.Begun beginning.Begun x y = (refl, x.1 ∙ sym y.1)
-upto_begin_once n next other beginning.Begun (beginning.Refused k) x y = absurd (y.1 x.0)
-upto_begin_once n next other (beginning.Refused k) beginning.Begun x y = absurd (x.1 y.0)
-upto_begin_once n next other (beginning.Refused j) (beginning.Refused k) x y = (ap beginning.Refused (x.0 ∙ sym y.0), x.2 ∙ sym y.2)
+pub upto_begin_once : (n : ℕ) (next other : UptoRun) (r q : Result (Unit {0}) Refusal) → UptoBeginPromise n next r → UptoBeginPromise n other q → (r ≡ q) × (next ≡ other)
+upto_begin_once n next other (Ok u) (Ok v) x y = (refl, x.1 ∙ sym y.1)
+upto_begin_once n next other (Ok u) (Err e) x y = absurd (y.1 x.0)
+upto_begin_once n next other (Err e) (Ok u) x y = absurd (x.1 y.0)
+upto_begin_once n next other (Err e) (Err d) x y = (same-refusal (x.0 ∙ sym y.0), x.2 ∙ sym y.2)
 
 -- ---- all have been given
 
@@ -59,23 +59,28 @@ module _ (run : UptoRun) (a0 a1 aw : List ℕ) where
   number-once j k (inr (e, (n, p, T, l, s))) (inl y) = absurd (y.1 n p T)
   number-once j k (inr x) (inr y) = x.0 ∙ sym y.0
 
-  gives-once : (n p n' p' : ℕ) (next other : UptoRun) (b0 b1 bw c0 c1 cw : List ℕ) (size m v size' m' v' : ℕ) → UptoGives n p run next a0 a1 aw b0 b1 bw size m v → UptoGives n' p' run other a0 a1 aw c0 c1 cw size' m' v'
-      → (Given size m v ≡ Given size' m' v') × (next ≡ other) × SameLists b0 b1 bw c0 c1 cw
-  gives-once n p n' p' next other b0 b1 bw c0 c1 cw size m v size' m' v' G H =
-      let q = upto-stands-once G.stood H.stood in (
-        rw (G.size_is, G.length_is, G.visits_are, H.size_is, H.length_is, H.visits_are, q.0, q.1),
+  gives-once : (n p n' p' : ℕ) (next other : UptoRun) (b0 b1 bw c0 c1 cw : List ℕ) (g h : UptoGiven) → UptoGives n p run next a0 a1 aw b0 b1 bw g.size g.length g.visits → UptoGives n' p' run other a0 a1 aw c0 c1 cw h.size h.length h.visits
+      → (g ≡ h) × (next ≡ other) × SameLists b0 b1 bw c0 c1 cw
+  gives-once n p n' p' next other b0 b1 bw c0 c1 cw g h G H =
+      let q = upto-stands-once G.stood H.stood in
+      let size : g.size ≡ h.size = rw (G.size_is, H.size_is, q.0, q.1) in
+      let long : g.length ≡ h.length = rw (G.length_is, H.length_is, q.0, q.1) in
+      let visited : g.visits ≡ h.visits = rw (G.visits_are, H.visits_are, q.0, q.1) in (
+        λ i. record { size = size i; length = long i; visits = visited i },
         G.leaves ∙ rw (q.0, q.1) (sym H.leaves),
         written_once (rw (q.0, q.1) at G.written) H.written,
       )
 
-  pub upto_step_once : (next other : UptoRun) (b0 b1 bw c0 c1 cw : List ℕ) (r q : UptoStepping) → UptoStepPromise run next a0 a1 aw b0 b1 bw r → UptoStepPromise run other a0 a1 aw c0 c1 cw q
+  pub upto_step_once : (next other : UptoRun) (b0 b1 bw c0 c1 cw : List ℕ) (r q : Result (Option UptoGiven) Refusal) → UptoStepPromise run next a0 a1 aw b0 b1 bw r → UptoStepPromise run other a0 a1 aw c0 c1 cw q
       → (r ≡ q) × (next ≡ other) × SameLists b0 b1 bw c0 c1 cw
-  upto_step_once next other b0 b1 bw c0 c1 cw (Given size m v) (Given size' m' v') (n, p, G) (n', p', H) = gives-once n p n' p' next other b0 b1 bw c0 c1 cw size m v size' m' v' G H
-  upto_step_once next other b0 b1 bw c0 c1 cw (Given size m v) End (n, p, G) ((n', x, O), u) = absurd (more-not-over n p n' G.stood G.more O)
-  upto_step_once next other b0 b1 bw c0 c1 cw (Given size m v) (Refused k) (n, p, G) y = absurd (given-not-refused n p next b0 b1 bw size m v k G y.0)
-  upto_step_once next other b0 b1 bw c0 c1 cw End (Given size m v) ((n, x, O), u) (n', p, G) = absurd (more-not-over n' p n G.stood G.more O)
-  upto_step_once next other b0 b1 bw c0 c1 cw End End ((n, x, O), u) ((n', y, P), t) = (refl, x ∙ ap finished_upto (sym (over-bound n run O) ∙ over-bound n' run P) ∙ sym y, untouched-once u t)
-  upto_step_once next other b0 b1 bw c0 c1 cw End (Refused k) ((n, x, O), u) y = absurd (over-not-refused n k O y.0)
-  upto_step_once next other b0 b1 bw c0 c1 cw (Refused k) (Given size m v) x (n, p, G) = absurd (given-not-refused n p other c0 c1 cw size m v k G x.0)
-  upto_step_once next other b0 b1 bw c0 c1 cw (Refused k) End x ((n, y, O), u) = absurd (over-not-refused n k O x.0)
-  upto_step_once next other b0 b1 bw c0 c1 cw (Refused j) (Refused k) x y = (ap Refused (number-once j k x.0 y.0), x.1 ∙ sym y.1, untouched-once x.2 y.2)
+  upto_step_once next other b0 b1 bw c0 c1 cw (Ok (Some g)) (Ok (Some h)) (n, p, G) (n', p', H) =
+      let e = gives-once n p n' p' next other b0 b1 bw c0 c1 cw g h G H in
+      (ap (λ (x : UptoGiven). Ok (Some x)) e.0, e.1, e.2)
+  upto_step_once next other b0 b1 bw c0 c1 cw (Ok (Some g)) (Ok None) (n, p, G) ((n', x, O), u) = absurd (more-not-over n p n' G.stood G.more O)
+  upto_step_once next other b0 b1 bw c0 c1 cw (Ok (Some g)) (Err e) (n, p, G) y = absurd (given-not-refused n p next b0 b1 bw g.size g.length g.visits (number e) G y.0)
+  upto_step_once next other b0 b1 bw c0 c1 cw (Ok None) (Ok (Some g)) ((n, x, O), u) (n', p, G) = absurd (more-not-over n' p n G.stood G.more O)
+  upto_step_once next other b0 b1 bw c0 c1 cw (Ok None) (Ok None) ((n, x, O), u) ((n', y, P), t) = (refl, x ∙ ap finished_upto (sym (over-bound n run O) ∙ over-bound n' run P) ∙ sym y, untouched-once u t)
+  upto_step_once next other b0 b1 bw c0 c1 cw (Ok None) (Err e) ((n, x, O), u) y = absurd (over-not-refused n (number e) O y.0)
+  upto_step_once next other b0 b1 bw c0 c1 cw (Err e) (Ok (Some g)) x (n, p, G) = absurd (given-not-refused n p other c0 c1 cw g.size g.length g.visits (number e) G x.0)
+  upto_step_once next other b0 b1 bw c0 c1 cw (Err e) (Ok None) x ((n, y, O), u) = absurd (over-not-refused n (number e) O x.0)
+  upto_step_once next other b0 b1 bw c0 c1 cw (Err e) (Err d) x y = (same-refusal (number-once (number e) (number d) x.0 y.0), x.1 ∙ sym y.1, untouched-once x.2 y.2)

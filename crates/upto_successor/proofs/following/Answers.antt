@@ -1,15 +1,9 @@
 -- `following` meets its contract: by `last_raise` an item after the first is raised; where none can be, U becomes T, or the word is the last.
-use borrow.Author.Rules.{rules}
-use mathlib.Core.Path.{◌≡◌, refl}
-use mathlib.Core.Logic.{◌≢◌, ◌⊎◌, inl, inr}
-use mathlib.Core.List.{List, []}
-use Prim.Native.Nat.{ℕ, ◌+◌, ◌≤◌, ◌<◌}
+use mathlib.Core.Path.{refl}
+use mathlib.Core.Logic.{inl, inr}
+use mathlib.Core.List.{[]}
 use native.Mathlib.Omega.{arith}
-use lib.ListN.{length, get_or}
-use Rattle.listing_successor_endings.specs.Endings.{shared_word}
-use Rattle.listing_successor_states.proofs.States.{start_small}
-use Rattle.upto_words.specs.Successor.{following, following_shared}
-use Rattle.upto_successor.proofs.Branches.{following-held, within-rest, Searched, raised-room, following-first, following-raised, following-rooted, following-none}
+use Rattle.upto_successor.proofs.Branches.{following-held, Searched, following-first, following-raised, following-rooted, following-none}
 use Rattle.upto_successor.proofs.following.Goals as goal
 
 pub returns-then-word-eq0 : goal.returns-then-word-eq0

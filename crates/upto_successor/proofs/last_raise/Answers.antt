@@ -1,10 +1,5 @@
 -- `last_raise` meets its contract. Invariant: the items before i lead to the state, and what was kept is the last of them that can be raised.
-use mathlib.Core.Logic.{⊎_elim}
-use Prim.Native.Nat.{◌-◌}
-use native.Mathlib.Omega.{arith}
-use lib.ListN.{length}
-use borrow.Author.Rules.{rules}
-use Rattle.upto_successor.proofs.Raises.{Reached, reached-start, reached-height, Turned, turned_same, turned-raised, reached-more, reached-all}
+use Rattle.upto_successor.proofs.Raises.{reached-start, turned_same, turned-raised, reached-more, reached-all}
 use Rattle.upto_successor.proofs.last_raise.Goals as goal
 use Rattle.upto_successor.proofs.last_raise.Goals.{then-e-gt0, else-e-gt0}
 

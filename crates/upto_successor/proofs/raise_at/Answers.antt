@@ -1,6 +1,4 @@
 -- `raise_at` meets its contract: the beginning of the word filled into zeros, and the event after it.
-use borrow.Author.Rules.{rules}
-use mathlib.Core.Path.{sym}
 use Prim.Native.Nat.{◌≤◌}
 use native.Mathlib.Omega.{arith}
 use lib.ListN.{length, take}

@@ -1,7 +1,5 @@
 -- The answer by cases: no item, a first item without a letter, and otherwise that of `put_letters`.
-use native.Mathlib.Omega.{arith}
-use borrow.Author.Rules.{rules}
-use Rattle.words.proofs.Lettering.{lettering-none, lettering-first, lettering-split}
+use Rattle.words.proofs.Lettering.{lettering-none}
 use Rattle.words.proofs.letters.Goals as goal
 
 pub returns-then-word-eq0 : goal.returns-then-word-eq0

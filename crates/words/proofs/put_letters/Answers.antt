@@ -1,10 +1,10 @@
 -- The letters of a word from a first item of 0 or 1 on: refused where the events do not fit into what the first letter leaves.
 use mathlib.Core.Path.{◌≡◌, sym, ◌∙◌}
-use mathlib.Core.Bool.{Bool, true, false}
+use mathlib.Core.Bool.{true, false}
 use Prim.Native.Nat.{ℕ, ◌-◌, ◌≤◌, ◌<◌}
 use native.Mathlib.Omega.{arith}
 use lib.Dec.{leb}
-use lib.ListN.{length, length-set}
+use lib.ListN.{length}
 use borrow.Author.Tests.{leb-true, leb-false}
 use Rattle.words.specs.Letters.{events_letters}
 use Rattle.words.proofs.Lettering.{lettering-short, lettering-whole}
@@ -23,8 +23,5 @@ returns-then-out-eq0 c = lettering-short _ _ _ c.requires (omega arith)
 pub returns-then-not-events_fit : goal.returns-then-not-events_fit
 returns-then-not-events_fit c = lettering-short _ _ _ c.requires (let i = short (length (events_letters c.args.items.now)) (length c.args.out.now) (sym c.events_fit.ensures ∙ c.if-not-events_fit.true) in omega arith)
 
-pub put_events-n-requires : goal.put_events-n-requires
-put_events-n-requires c = let i = fits (length (events_letters c.args.items.now)) (length c.args.out.now) (omega arith) (sym c.events_fit.ensures ∙ c.if-not-events_fit.false) in simp length-set (omega arith)
-
 pub returns : goal.returns
-returns c = lettering-whole _ _ _ _ _ _ c.requires c.first_letter.ensures (fits (length (events_letters c.args.items.now)) (length c.args.out.now) (omega arith) (sym c.events_fit.ensures ∙ c.if-not-events_fit.false)) c.put_events-n.ensures
+returns c = lettering-whole _ _ _ _ _ _ c.requires c.first_letter.ensures (fits (length (events_letters c.args.items.now)) (length c.args.out.now) (omega arith) (sym c.events_fit.ensures ∙ c.if-not-events_fit.false)) c.put_events.ensures

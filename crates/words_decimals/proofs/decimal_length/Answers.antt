@@ -1,9 +1,7 @@
 -- The digits counted: those passed and those of what is left of m are together those of m.
-use mathlib.Core.Path.{◌≡◌, ap}
-use Prim.Native.Nat.{suc, ◌+◌, ◌≤◌}
+use mathlib.Core.Path.{ap}
 use native.Mathlib.Omega.{arith}
 use lib.ListN.{length}
-use Rattle.words_decimals.specs.Decimals.{decimal}
 use Rattle.words_decimals.proofs.Decimal.{decimal-length, decimal-some, decimal-small, length_more}
 use Rattle.words_decimals.proofs.decimal_length.Goals as goal
 

@@ -1,10 +1,8 @@
 -- The digits counted: those passed and those of what is left of m are together those of m.
-use mathlib.Core.Path.{◌≡◌, ap}
+use mathlib.Core.Path.{◌≡◌}
 use Prim.Native.Nat.{suc, ◌+◌, ◌≤◌}
-use native.Mathlib.Omega.{arith}
 use lib.ListN.{length}
 use Rattle.words_decimals.specs.Decimals.{decimal}
-use Rattle.words_decimals.proofs.Decimal.{decimal-length, decimal-small, length_more}
 use Rattle.words_decimals.proofs.decimal_length.Given as goal
 
 abbrev pub invariant-loop-x : goal.invariant-loop-x

@@ -1,11 +1,9 @@
 -- The digits are written from the last to the first: what is left to write is a smaller decimal at the same place (`Left`).
-use mathlib.Core.Path.{refl, ap}
+use mathlib.Core.Path.{ap}
 use Prim.Native.Nat.{◌+◌}
 use native.Mathlib.Omega.{arith}
-use lib.ListN.{length-set}
-use borrow.Author.Rules.{rules}
-use Rattle.words_decimals.proofs.Decimal.{Left, left-more, left-last, decimal-some}
-use Rattle.words_decimals.proofs.Writing.{wrote-put, put-short}
+use Rattle.words_decimals.proofs.Decimal.{left-more, left-last, decimal-some}
+use Rattle.words_decimals.proofs.Writing.{wrote-put}
 use Rattle.words_decimals.proofs.put_decimal.Goals as goal
 
 pub overflow_sub-end : goal.overflow_sub-end

@@ -1,10 +1,7 @@
 -- The letters of an event written: a store, or a J and then its decimal.
-use mathlib.Core.Path.{ap, ◌∙◌}
 use native.Mathlib.Omega.{arith}
-use lib.ListN.{length, length-set}
-use borrow.Author.Rules.{rules}
 use Rattle.words_decimals.proofs.Writing.{wrote-byte}
-use Rattle.words_letters.proofs.Lettering.{event-one, event-jump, wrote-jump}
+use Rattle.words_letters.proofs.Lettering.{event-one, wrote-jump}
 use Rattle.words_letters.proofs.put_event.Goals as goal
 
 pub returns-then-x-lt3 : goal.returns-then-x-lt3

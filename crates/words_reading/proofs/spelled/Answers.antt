@@ -2,9 +2,15 @@
 use Rattle.words_reading_events.specs.State.{after_u, after_t}
 use Rattle.words_reading.proofs.ReadingLaws.{opening-alone, opening-triple}
 use Rattle.words_reading.proofs.spelled.Goals as goal
+use Rattle.words_reading.proofs.spelled.Goals.{in-0, in-1}
 
-pub returns-in-0 : goal.returns-in-0
-returns-in-0 c = rw (opening-alone _ c.requires.word_nonzero c.in-0.is) (c.events.ensures after_u c.start_alone.ensures)
-
-pub returns-in-1 : goal.returns-in-1
-returns-in-1 c = rw (opening-triple _ c.requires.word_nonzero c.in-1.is) (c.events-in-1.ensures after_t c.start_triple.ensures)
+pub returns : goal.returns
+returns c =
+    elim c.match-word.branch [
+      | in-0 w ↦
+          rw (opening-alone _ c.requires.word_nonzero w.in-0.is)
+          (c.events.ensures after_u (rw (w.next-is, w.prev-is, w.x0-is, w.x1-is, w.counts-is) w.start_alone-counts.ensures))
+      | in-1 w ↦
+          rw (opening-triple _ c.requires.word_nonzero w.in-1.is)
+          (c.events.ensures after_t (rw (w.next-is, w.prev-is, w.x0-is, w.x1-is, w.counts-is) w.start_triple-counts.ensures))
+    ]

@@ -19,22 +19,22 @@ found nx pv x0 x1 u h d i j p t o l ie je f =
     let e : p ≡ get_or t.stack d 0 = f t.stack o.ring (je ∙ o.high) (omega (arith, ie, o.high)) ∙ ap (λ (k : ℕ). get_or t.stack k 0) ie in
     (e, subst (λ (x : ℕ). Has x t.stack) (sym e) (has_get_d t.stack d (omega (arith, o.high))))
 
-pub returns-then-height-d : goal.returns-then-height-d
-returns-then-height-d c = λ x0 t o w. join-refused _ _ _ _ _ _ t o _ _ w c.if-height-d.true
+pub returns-then-counts-d : goal.returns-then-counts-d
+returns-then-counts-d c = λ x0 t o w. join-refused _ _ _ _ _ _ t o _ _ w c.if-counts-d.true
 
 pub unhook-requires : goal.unhook-requires
 unhook-requires c =
     let (x0, t, o) = c.requires.by_index in
-    (_, o.ring, (found _ _ _ _ _ _ _ _ _ _ t o c.if-height-d.false c.to_index.ensures c.to_index-2.ensures c.label_below-p.ensures).1)
+    (_, o.ring, (found _ _ _ _ _ _ _ _ _ _ t o c.if-counts-d.false c.to_index.ensures c.to_index-2.ensures c.label_below-p.ensures).1)
 
 pub pair-requires : goal.pair-requires
 pair-requires c =
     let (x0, t, o) = c.requires.by_index in
     let g = pending-given _ _ _ _ _ _ t o c.args.d (omega arith) in
-    omega (arith, (found _ _ _ _ _ _ _ _ _ _ t o c.if-height-d.false c.to_index.ensures c.to_index-2.ensures c.label_below-p.ensures).0, o.room, o.white_long)
+    omega (arith, (found _ _ _ _ _ _ _ _ _ _ t o c.if-counts-d.false c.to_index.ensures c.to_index-2.ensures c.label_below-p.ensures).0, o.room, o.white_long)
 
 pub returns : goal.returns
 returns c =
     λ x0 t o w.
-    let f = found _ _ _ _ _ _ _ _ _ _ t o c.if-height-d.false c.to_index.ensures c.to_index-2.ensures c.label_below-p.ensures in
-    join_stands _ _ _ _ _ _ t o _ _ _ w _ _ _ c.requires.one_to c.if-height-d.false f.0 c.pair.ensures (c.unhook.ensures t.stack o.ring f.1)
+    let f = found _ _ _ _ _ _ _ _ _ _ t o c.if-counts-d.false c.to_index.ensures c.to_index-2.ensures c.label_below-p.ensures in
+    join_stands _ _ _ _ _ _ t o _ _ _ w _ _ _ c.requires.one_to c.if-counts-d.false f.0 c.pair.ensures (c.unhook.ensures t.stack o.ring f.1)

@@ -1,5 +1,4 @@
 -- `add_event` notes the label on top and reads the item: from the state before it to the state after it.
-use borrow.Author.Rules.{rules}
 use native.Mathlib.Omega.{arith}
 use Rattle.words_respelling.proofs.Laws.{due-low, due-height, due-midway, due-added}
 use Rattle.words_respelling.proofs.add_event.Goals as goal

@@ -1,5 +1,4 @@
 -- `spell_all` begins the word and adds the events of its other items.
-use borrow.Author.Rules.{rules}
 use native.Mathlib.Omega.{arith}
 use Rattle.words_respelling.proofs.Laws.{listed-some, first-spelt, first-room, spelling-begun}
 use Rattle.words_respelling.proofs.spell_all.Goals as goal

@@ -1,5 +1,4 @@
 -- `undo_event` undoes the item's event: the law of the event taken back, at the label that was popped.
-use borrow.Author.Rules.{rules}
 use native.Mathlib.Omega.{arith}
 use lib.ListN.{get_or}
 use Rattle.words_spelling_events.proofs.Lists.{jump-item}

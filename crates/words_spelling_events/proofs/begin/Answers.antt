@@ -1,5 +1,4 @@
 -- `begin` leaves the lists and the stack as U or T does (`midway-U`, `midway-T`).
-use borrow.Author.Rules.{rules}
 use native.Mathlib.Omega.{arith}
 use Rattle.words_spelling_events.proofs.Laws.{first_some, first-T, midway-U, midway-T}
 use Rattle.words_spelling_events.proofs.begin.Goals as goal

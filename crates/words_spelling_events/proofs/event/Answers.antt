@@ -1,5 +1,4 @@
 -- `event` takes the lists and the stack from before an item to after it: the law of the item's event, at the label that is popped.
-use borrow.Author.Rules.{rules}
 use native.Mathlib.Omega.{arith}
 use mathlib.Core.Path.{refl}
 use Rattle.words_spelling_events.proofs.Lists.{jump-item}

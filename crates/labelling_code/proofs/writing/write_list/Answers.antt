@@ -1,6 +1,6 @@
 -- `write_list` meets its contract.
 use borrow.Author.Rules.{rules}
-use mathlib.Core.Path.{refl, ◌∙◌}
+use mathlib.Core.Path.{◌∙◌}
 use mathlib.Core.List.{List}
 use Prim.Native.Nat.{ℕ, ◌+◌, ◌<◌}
 use native.Mathlib.Omega.{arith}
@@ -29,10 +29,7 @@ bounds-labels-to_index c =
     omega arith
 
 pub loop-j-preserved : goal.loop-j-preserved
-loop-j-preserved c = (
-  refl,
-  search rules,
-  λ o h.
-      rw (c.loop-j.invariant.2 o h, c.to_index.ensures ∙ c.follow-x.ensures, seen c.args.s.now c.args.labels.now c.args.order.now o c.loop-j.j h (search rules))
-      (listed_more (relabel o (at c.args.s.now)) c.args.t.now c.loop-j.j (let n = c.requires.s_in_bounds.2 in omega arith)),
-)
+loop-j-preserved c =
+    λ o h.
+    rw (c.loop-j.invariant o h, c.to_index.ensures ∙ c.follow-x.ensures, seen c.args.s.now c.args.labels.now c.args.order.now o c.loop-j.j h (search rules))
+    (listed_more (relabel o (at c.args.s.now)) c.args.t.now c.loop-j.j (let n = c.requires.s_in_bounds.2 in omega arith))

@@ -8,18 +8,13 @@ use Rattle.listing_places_ways.proofs.ranking.rank.Goals as goal
 
 pub pass-block-requires-clause-by_index : goal.pass-block-requires-clause-by_index
 pass-block-requires-clause-by_index c =
-    let R = rw (next-item c.args.items.now c.loop-i.i (omega arith)) at c.loop-i.invariant.1 in
-    (drop (c.loop-i.i + 1) c.args.items.now, R.fits)
+    let R = rw (next-item c.args.items.now c.loop-item.item-index (omega arith)) at c.loop-item.invariant in
+    (drop (c.loop-item.item-index + 1) c.args.items.now, R.fits)
 
 pub overflow_add-place : goal.overflow_add-place
 overflow_add-place c =
-    let R = rw (next-item c.args.items.now c.loop-i.i (omega arith)) at c.loop-i.invariant.1 in
+    let R = rw (next-item c.args.items.now c.loop-item.item-index (omega arith)) at c.loop-item.invariant in
     omega (arith, (ranked-more _ _ _ _ _ _ _ _ _ R (c.pass-block.ensures _ R.fits)).sum, rank-small c.args.height c.args.free c.args.items.now c.requires.1 c.requires.0)
 
-pub loop-i-preserved : goal.loop-i-preserved
-loop-i-preserved c =
-    let R = rw (next-item c.args.items.now c.loop-i.i (omega arith)) at c.loop-i.invariant.1 in
-    (omega arith, ranked-more _ _ _ _ _ _ _ _ _ R (c.pass-block.ensures _ R.fits))
-
 pub returns : goal.returns
-returns c = ranked-end _ _ _ _ (rw (drop_of_length-le c.args.items.now c.loop-i-test.false) at c.loop-i.invariant.1)
+returns c = ranked-end _ _ _ _ (rw (drop_of_length-le c.args.items.now c.loop-item-test.false) at c.loop-item.invariant)
