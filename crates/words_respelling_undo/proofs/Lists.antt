@@ -1,14 +1,15 @@
 -- Laws of entries that are put back, of a list's beginning, and of a label that goes back into the stack.
 use mathlib.Core.Path.{◌≡◌, refl, sym, ap, ◌∙◌}
-use mathlib.Core.Logic.{◌≢◌, inl, inr}
+use mathlib.Core.Logic.{◌≢◌, ◌⊎◌, inl, inr}
 use mathlib.Core.List.{List, [], ◌∷◌, ◌++◌, append_assoc}
 use Prim.Native.Nat.{ℕ, zero, suc, ◌+◌, ◌-◌, ◌≤◌, ◌<◌}
 use native.Mathlib.Nat.{not-suc-le-zero}
 use native.Mathlib.Omega.{arith}
-use lib.ListN.{length, get_or, set}
-use lib.Seq.{drop-append_seam, set-get_or, set-set, set_comm}
+use lib.ListN.{length, get_or, set, length-set}
+use lib.Seq.{drop-append_seam, set-get_or, set-set, set_comm, get_or-set_same, get_or-set_other}
 use Rattle.lists.specs.Lists.{at, put, remove_at, Has, All}
 use Rattle.lists.specs.Ranges.{OneTo}
+use Rattle.lists.proofs.Tests.{same?}
 use Rattle.lists.proofs.Lists.{length-remove_at, length-put, at_place, put-place, put-left}
 use Rattle.words.specs.Outputs.{overwrite}
 use Rattle.words_spelling_stores.specs.Stores.{Shifted}
@@ -90,3 +91,36 @@ stacked-uncut p q (k ∷ r) zero place end s l e m f h =
 stacked-uncut p q (k ∷ r) (suc d) place end s l e m f h =
     let z = length-remove_at d r (omega arith) in
     (rw (← z) (sym (s.moved (length (remove_at d r)) (omega arith) (omega arith)) ∙ h.0), stacked-uncut p q r d place end s (omega arith) (omega arith) (omega arith) f h.1)
+
+-- the loop that moves entries up, from the upper end: q is p with those from the place i on moved
+pub record Rising (p q : List ℕ) (i end : ℕ) : Type 0 where
+  pub long : length q ≡ length p
+  pub below : (j : ℕ) → j ≤ i → get_or q j 0 ≡ get_or p j 0
+  pub moved : (j : ℕ) → i ≤ j → j < end → get_or p j 0 ≡ get_or q (suc j) 0
+
+pub rising_none : (p : List ℕ) (end : ℕ) → Rising p p end end
+rising_none p end = record { long = refl; below = λ j l. refl; moved = λ j l m. absurd (omega arith) }
+
+pub rising-more : (p q : List ℕ) (i end : ℕ) → 1 ≤ i → i ≤ end → end < length p → Rising p q i end → Rising p (set q i (get_or q (i - 1) 0)) (i - 1) end
+rising-more p q zero end a l m s = absurd (omega arith)
+rising-more p q (suc i) end a l m s =
+    let e : suc i - 1 ≡ i = omega arith in
+    rw e record {
+      long = length-set q (suc i) _ ∙ s.long;
+      below = λ j h. get_or-set_other q (suc i) j _ 0 (λ g. omega arith) ∙ s.below j (omega arith);
+      moved = λ j h g. go j h g (same? j i);
+    }
+  where
+    go : (j : ℕ) → i ≤ j → j < end → (j ≡ i) ⊎ (j ≢ i) → get_or p j 0 ≡ get_or (set q (suc i) (get_or q i 0)) (suc j) 0
+    go j h g (inl f) = rw (f, get_or-set_same q (suc i) (get_or q i 0) 0 (let z = s.long in omega arith)) (sym (s.below i (omega arith)))
+    go j h g (inr n) = s.moved j (omega arith) g ∙ sym (get_or-set_other q (suc i) (suc j) (get_or q i 0) 0 (λ f. n (omega arith)))
+
+pub rising-put : (p q : List ℕ) (place end v : ℕ) → place ≤ end → end < length p → Rising p q place end → Shifted (set q place v) p place end × (get_or (set q place v) place 0 ≡ v)
+rising-put p q place end v l m s = (
+  record {
+    long = sym (length-set q place v ∙ s.long);
+    below = λ j h. sym (get_or-set_other q place j v 0 (λ g. omega arith) ∙ s.below j (omega arith));
+    moved = λ j h g. s.moved j h g ∙ sym (get_or-set_other q place (suc j) v 0 (λ f. omega arith));
+  },
+  get_or-set_same q place v 0 (let z = s.long in omega arith),
+)

@@ -15,7 +15,9 @@ fn insert_at(stack: &mut [u16; 64], place: usize, height: usize, p: u16)
     requires { (place ≤ height) × (height < 64) × (length stack.old ≡ 64) }
     ensures { Shifted stack.new stack.old place height × (get_or stack.new place 0 ≡ p) }
 {
-    stack.copy_within(place..height, place + 1);
+    for i in (place..height).rev() {
+        stack[i + 1] = stack[i];
+    }
     stack[place] = p;
 }
 

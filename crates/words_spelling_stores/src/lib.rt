@@ -24,7 +24,9 @@ fn remove_at(stack: &mut [u16; 64], place: usize, height: usize)
     requires { (place < height) × (height ≤ 64) × (length stack.old ≡ 64) }
     ensures { Shifted stack.old stack.new place (height - 1) }
 {
-    stack.copy_within(place + 1..height, place);
+    for i in place..height - 1 {
+        stack[i] = stack[i + 1];
+    }
 }
 
 // F: k's partner is the next free label c, on a black vertex c, c + 1, c + 2; the last two are pushed.
