@@ -7,15 +7,17 @@ ghost use Rattle.listing_plain_walk.specs.Promises.{PlainWalkPromise};
 ghost use Rattle.listing_plain_walk.specs.Walk.{WalkRoom, WalkAdded};
 
 use listing_plain_walk_events::after_event;
-use lists::fill_from;
 use refusals::Refusal;
 
-// Writes the first len items of word into out from a place on, and gives the place after them.
+// Writes the first len items of word into out from a place on, and gives the place after them. In a loop, because for a slice that is copied here
+// the archive for C would ask for `memmove`, and it is to ask for `memcpy` and `memset` alone.
 fn write(out: &mut [u16], place: usize, word: &[u16], len: usize) -> usize
     requires { (place + len ≤ length out.old) × (len ≤ length word.now) }
     ensures { (result ≡ place + len) × (out.new ≡ overwrite_from place (take len word.now) out.old) }
 {
-    fill_from(out, place, &word[..len]);
+    for i in 0..len {
+        out[place + i] = word[i];
+    }
     place + len
 }
 
