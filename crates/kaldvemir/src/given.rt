@@ -37,7 +37,7 @@ pub extern "C" fn kaldvemir_relabel(
     ensures { (a : Result ℕ Refusal)
         × RelabelPromise s0.now s1.now root t0.old t1.old word.old t0.new t1.new word.new a
         × (result ≡ answers.refusal_number a)
-        × (length.new ≡ answers.told_value a length.old) }
+        × (length.new ≡ answers.relabel_length a length.old) }
 {
     let a = labelling_operations::relabel(s0, s1, root, t0, t1, word);
     tell(a.map(u64::from), length)
@@ -90,7 +90,7 @@ pub extern "C" fn kaldvemir_symmetries(s0: &[u16], s1: &[u16], root: u64, count:
     ensures { (a : Result ℕ Refusal)
         × SymmetriesPromise s0.now s1.now root a
         × (result ≡ answers.refusal_number a)
-        × (count.new ≡ answers.told_value a count.old) }
+        × (count.new ≡ answers.symmetries_count a count.old) }
 {
     let a = labelling_operations::symmetries(s0, s1, root);
     tell(a.map(u64::from), count)

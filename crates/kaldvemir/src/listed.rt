@@ -10,14 +10,14 @@ use kaldvemir_answers::tell;
 
 #[unsafe(no_mangle)]
 pub extern "C" fn kaldvemir_count(size: u64, count: &mut u64) -> u16
-    ensures { (a : Result ℕ Refusal) × CountPromise size a × (result ≡ answers.refusal_number a) × (count.new ≡ answers.told_value a count.old) }
+    ensures { (a : Result ℕ Refusal) × CountPromise size a × (result ≡ answers.refusal_number a) × (count.new ≡ answers.count_total a count.old) }
 {
     tell(listing_ranking::count(size), count)
 }
 
 #[unsafe(no_mangle)]
 pub extern "C" fn kaldvemir_kept_count(size: u64, kept: &mut u64) -> u16
-    ensures { (a : Result ℕ Refusal) × KeptCountPromise size a × (result ≡ answers.refusal_number a) × (kept.new ≡ answers.told_value a kept.old) }
+    ensures { (a : Result ℕ Refusal) × KeptCountPromise size a × (result ≡ answers.refusal_number a) × (kept.new ≡ answers.count_total a kept.old) }
 {
     tell(run_kept_count::kept_count(size), kept)
 }
@@ -34,7 +34,7 @@ pub extern "C" fn kaldvemir_diagram_at(
     ensures { (a : Result ℕ Refusal)
         × DiagramAtPromise size position s0.old s1.old word.old s0.new s1.new word.new a
         × (result ≡ answers.refusal_number a)
-        × (length.new ≡ answers.told_value a length.old) }
+        × (length.new ≡ answers.entry_length a length.old) }
 {
     let a = listing_ranking::diagram_at(size, position, s0, s1, word);
     tell(a.map(u64::from), length)
@@ -45,7 +45,7 @@ pub extern "C" fn kaldvemir_position(s0: &[u16], s1: &[u16], root: u64, position
     ensures { (a : Result ℕ Refusal)
         × PositionPromise s0.now s1.now root a
         × (result ≡ answers.refusal_number a)
-        × (position.new ≡ answers.told_value a position.old) }
+        × (position.new ≡ answers.located_position a position.old) }
 {
     tell(listing_position::position(s0, s1, root), position)
 }
@@ -55,7 +55,7 @@ pub extern "C" fn kaldvemir_plain_walk(size: u64, words: &mut [u16], count: &mut
     ensures { (a : Result ℕ Refusal)
         × PlainWalkPromise size words.old words.new a
         × (result ≡ answers.refusal_number a)
-        × (count.new ≡ answers.told_value a count.old) }
+        × (count.new ≡ answers.walk_count a count.old) }
 {
     let a = listing_plain_walk::plain_walk(size, words);
     tell(a.map(|numbers| numbers as u64), count)

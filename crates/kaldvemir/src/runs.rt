@@ -81,7 +81,7 @@ pub extern "C" fn kaldvemir_list(
         × ListPromise (run_of run.old) rows s0.old s1.old words.old lengths.old
         next s0.new s1.new words.new lengths.new a
         × (result ≡ answers.refusal_number a)
-        × (given.new ≡ answers.told_value a given.old)
+        × (given.new ≡ answers.list_rows a given.old)
         × (run.new ≡ run_numbers next) }
 {
     let listed = run_blocks::list(held(*run), rows, s0, s1, words, lengths);
@@ -105,7 +105,7 @@ pub extern "C" fn kaldvemir_list_marked(
         × ListMarkedPromise (run_of run.old) rows s0.old s1.old words.old lengths.old marks.old
         next s0.new s1.new words.new lengths.new marks.new a
         × (result ≡ answers.refusal_number a)
-        × (given.new ≡ answers.told_value a given.old)
+        × (given.new ≡ answers.list_rows a given.old)
         × (run.new ≡ run_numbers next) }
 {
     let listed = run_blocks::list_marked(held(*run), rows, s0, s1, words, lengths, marks);

@@ -27,7 +27,7 @@ pub extern "C" fn kaldvemir_claim(
     ticket: &mut u64,
 ) -> u16
     ensures { (result ≡ answers.refusal_number (claim_answer (book_in book.old) tick share length))
-        × (ticket.new ≡ answers.told_value (claim_answer (book_in book.old) tick share length) ticket.old)
+        × (ticket.new ≡ answers.claiming_ticket (claim_answer (book_in book.old) tick share length) ticket.old)
         × (book.new ≡ book_numbers (claim_book (book_in book.old) tick share length)) }
 {
     kaldvemir::books::kaldvemir_claim(book, tick, share, length, ticket)

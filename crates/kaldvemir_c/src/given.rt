@@ -35,7 +35,7 @@ pub extern "C" fn kaldvemir_relabel(
     ensures { (a : Result ℕ Refusal)
         × RelabelPromise s0.now s1.now root t0.old t1.old word.old t0.new t1.new word.new a
         × (result ≡ answers.refusal_number a)
-        × (length.new ≡ answers.told_value a length.old) }
+        × (length.new ≡ answers.relabel_length a length.old) }
 {
     kaldvemir::given::kaldvemir_relabel(s0, s1, root, t0, t1, word, length)
 }
@@ -85,7 +85,7 @@ pub extern "C" fn kaldvemir_symmetries(s0: &[u16], s1: &[u16], root: u64, count:
     ensures { (a : Result ℕ Refusal)
         × SymmetriesPromise s0.now s1.now root a
         × (result ≡ answers.refusal_number a)
-        × (count.new ≡ answers.told_value a count.old) }
+        × (count.new ≡ answers.symmetries_count a count.old) }
 {
     kaldvemir::given::kaldvemir_symmetries(s0, s1, root, count)
 }

@@ -8,14 +8,14 @@ ghost use Rattle.kaldvemir_answers.specs.Answers as answers;
 
 #[unsafe(no_mangle)]
 pub extern "C" fn kaldvemir_count(size: u64, count: &mut u64) -> u16
-    ensures { (a : Result ℕ Refusal) × CountPromise size a × (result ≡ answers.refusal_number a) × (count.new ≡ answers.told_value a count.old) }
+    ensures { (a : Result ℕ Refusal) × CountPromise size a × (result ≡ answers.refusal_number a) × (count.new ≡ answers.count_total a count.old) }
 {
     kaldvemir::listed::kaldvemir_count(size, count)
 }
 
 #[unsafe(no_mangle)]
 pub extern "C" fn kaldvemir_kept_count(size: u64, kept: &mut u64) -> u16
-    ensures { (a : Result ℕ Refusal) × KeptCountPromise size a × (result ≡ answers.refusal_number a) × (kept.new ≡ answers.told_value a kept.old) }
+    ensures { (a : Result ℕ Refusal) × KeptCountPromise size a × (result ≡ answers.refusal_number a) × (kept.new ≡ answers.count_total a kept.old) }
 {
     kaldvemir::listed::kaldvemir_kept_count(size, kept)
 }
@@ -32,7 +32,7 @@ pub extern "C" fn kaldvemir_diagram_at(
     ensures { (a : Result ℕ Refusal)
         × DiagramAtPromise size position s0.old s1.old word.old s0.new s1.new word.new a
         × (result ≡ answers.refusal_number a)
-        × (length.new ≡ answers.told_value a length.old) }
+        × (length.new ≡ answers.entry_length a length.old) }
 {
     kaldvemir::listed::kaldvemir_diagram_at(size, position, s0, s1, word, length)
 }
@@ -42,7 +42,7 @@ pub extern "C" fn kaldvemir_position(s0: &[u16], s1: &[u16], root: u64, position
     ensures { (a : Result ℕ Refusal)
         × PositionPromise s0.now s1.now root a
         × (result ≡ answers.refusal_number a)
-        × (position.new ≡ answers.told_value a position.old) }
+        × (position.new ≡ answers.located_position a position.old) }
 {
     kaldvemir::listed::kaldvemir_position(s0, s1, root, position)
 }
@@ -52,7 +52,7 @@ pub extern "C" fn kaldvemir_plain_walk(size: u64, words: &mut [u16], count: &mut
     ensures { (a : Result ℕ Refusal)
         × PlainWalkPromise size words.old words.new a
         × (result ≡ answers.refusal_number a)
-        × (count.new ≡ answers.told_value a count.old) }
+        × (count.new ≡ answers.walk_count a count.old) }
 {
     kaldvemir::listed::kaldvemir_plain_walk(size, words, count)
 }

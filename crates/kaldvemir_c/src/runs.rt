@@ -62,7 +62,7 @@ pub extern "C" fn kaldvemir_list(
         × ListPromise (run_of run.old) rows s0.old s1.old words.old lengths.old
         next s0.new s1.new words.new lengths.new a
         × (result ≡ answers.refusal_number a)
-        × (given.new ≡ answers.told_value a given.old)
+        × (given.new ≡ answers.list_rows a given.old)
         × (run.new ≡ run_numbers next) }
 {
     kaldvemir::runs::kaldvemir_list(run, rows, s0, s1, words, lengths, given)
@@ -83,7 +83,7 @@ pub extern "C" fn kaldvemir_list_marked(
         × ListMarkedPromise (run_of run.old) rows s0.old s1.old words.old lengths.old marks.old
         next s0.new s1.new words.new lengths.new marks.new a
         × (result ≡ answers.refusal_number a)
-        × (given.new ≡ answers.told_value a given.old)
+        × (given.new ≡ answers.list_rows a given.old)
         × (run.new ≡ run_numbers next) }
 {
     kaldvemir::runs::kaldvemir_list_marked(run, rows, s0, s1, words, lengths, marks, given)

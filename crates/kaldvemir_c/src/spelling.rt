@@ -16,7 +16,7 @@ pub extern "C" fn kaldvemir_read_word(
     ensures { (a : Result ℕ Refusal)
         × ReadPromise (reading_answer word.now (length s0.old) (length s1.old)) a s0.old s1.old s0.new s1.new
         × (result ≡ answers.refusal_number a)
-        × (size.new ≡ answers.told_value a size.old) }
+        × (size.new ≡ answers.read_size a size.old) }
 {
     kaldvemir::spelling::kaldvemir_read_word(word, s0, s1, size)
 }
@@ -35,7 +35,7 @@ pub extern "C" fn kaldvemir_letters(word: &[u16], letters: &mut [u8], length: &m
     ensures { (a : Result ℕ Refusal)
         × LettersPromise word.now letters.old a letters.new
         × (result ≡ answers.refusal_number a)
-        × (length.new ≡ answers.told_value a length.old) }
+        × (length.new ≡ answers.letters_length a length.old) }
 {
     kaldvemir::spelling::kaldvemir_letters(word, letters, length)
 }

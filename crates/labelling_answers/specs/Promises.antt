@@ -1,5 +1,5 @@
--- What relabel, characteristic, compare, symmetries and kept promise, by the cases of their answers. Lists named a are as
--- they were lent, lists named b as they are handed back.
+-- What relabel, characteristic, compare, symmetries and kept promise, by the cases of their answers, whose values, and of compare the number, are those
+-- of specs/Answers. Lists named a are as they were lent, lists named b as they are handed back.
 --
 --   RelabelPromise ..           relabel: 1 to 8, then 9; the characteristic labelling and the word, before what else the lists held
 --   CharacteristicPromise ..    characteristic: check's verdict, with the characteristic labelling and root 1, or the single edge
@@ -18,11 +18,11 @@ use Rattle.labelling.specs.Rootings.{Kept, symmetries}
 use Rattle.labelling_isomorphism.specs.Isomorphic.{IsomorphicBy}
 pub use Rattle.labelling_relabelling.specs.Promises.{CharacteristicPromise}
 use Rattle.labelling_answers.specs.declared.SideRefusal.{SideRefusal}
-use Rattle.labelling_answers.specs.Answers.{side_number}
+use Rattle.labelling_answers.specs.Answers.{relabel_length, compare_number, compare_side, symmetries_count}
 
 abbrev pub RelabelPromise : List ℕ → List ℕ → ℕ → List ℕ → List ℕ → List ℕ → List ℕ → List ℕ → List ℕ → Result ℕ Refusal → Type 0
 RelabelPromise s0 s1 root a0 a1 aw b0 b1 bw (Ok m) =
-    Accepts s0 s1 root × (¬ Short (length s0) a0 a1 aw) × (m ≡ length (word_of s0 s1 root)) × Written (characteristic s0 s1 root) (word_of s0 s1 root) a0 a1 aw b0 b1 bw
+    Accepts s0 s1 root × (¬ Short (length s0) a0 a1 aw) × (relabel_length (Ok m) 0 ≡ length (word_of s0 s1 root)) × Written (characteristic s0 s1 root) (word_of s0 s1 root) a0 a1 aw b0 b1 bw
 RelabelPromise s0 s1 root a0 a1 aw b0 b1 bw (Err e) =
     (Refuses s0 s1 root (number e) ⊎ ((number e ≡ 9) × Accepts s0 s1 root × Short (length s0) a0 a1 aw)) × Untouched a0 a1 aw b0 b1 bw
 
@@ -34,7 +34,7 @@ RefusedSide s0 s1 r t0 t1 q k side = ((side ≡ 1) × Refuses s0 s1 r k) ⊎ ((s
 abbrev pub ComparePromise : Bool → List ℕ → List ℕ → ℕ → List ℕ → List ℕ → ℕ → Result Bool SideRefusal → Type 0
 ComparePromise rooted s0 s1 r t0 t1 q (Ok true) = Accepts s0 s1 r × Accepts t0 t1 q × IsomorphicBy rooted s0 s1 r t0 t1 q
 ComparePromise rooted s0 s1 r t0 t1 q (Ok false) = Accepts s0 s1 r × Accepts t0 t1 q × (¬ IsomorphicBy rooted s0 s1 r t0 t1 q)
-ComparePromise rooted s0 s1 r t0 t1 q (Err e) = RefusedSide s0 s1 r t0 t1 q (number e.refusal) (side_number e.side)
+ComparePromise rooted s0 s1 r t0 t1 q (Err e) = RefusedSide s0 s1 r t0 t1 q (compare_number (Err e)) (compare_side (Err e) 0)
 
 abbrev pub CompareRootedPromise : List ℕ → List ℕ → ℕ → List ℕ → List ℕ → ℕ → Result Bool SideRefusal → Type 0
 CompareRootedPromise = ComparePromise true
@@ -43,7 +43,7 @@ abbrev pub CompareUnrootedPromise : List ℕ → List ℕ → ℕ → List ℕ �
 CompareUnrootedPromise = ComparePromise false
 
 abbrev pub SymmetriesPromise : List ℕ → List ℕ → ℕ → Result ℕ Refusal → Type 0
-SymmetriesPromise s0 s1 root (Ok m) = Accepts s0 s1 root × (m ≡ symmetries s0 s1 root)
+SymmetriesPromise s0 s1 root (Ok m) = Accepts s0 s1 root × (symmetries_count (Ok m) 0 ≡ symmetries s0 s1 root)
 SymmetriesPromise s0 s1 root (Err e) = Refuses s0 s1 root (number e)
 
 abbrev pub KeptPromise : List ℕ → List ℕ → ℕ → Result Bool Refusal → Type 0
